@@ -1,4 +1,4 @@
-//! A binding: what a principal may or may not do with the resources of a pattern.
+//! A binding (ACL): what a principal may or may not do with the resources of a pattern.
 
 ghost use Rattle.std.specs.Prelude.{◌≡◌};
 ghost use Rattle.acl_binding.specs.Binding.{covers, applies, denies, allows};
@@ -8,12 +8,14 @@ use crate::question::Question;
 use crate::words::{Kind, Operation, Pattern, Permission};
 use wire_types::Text;
 
-/// The principal, and the host, that stand for all of them.
+/// The principal that stands for every principal.
 const ANY_PRINCIPAL: &str = "User:*";
 
+/// The host that stands for every host.
 const ANY_HOST: &str = "*";
 
-/// A principal at a host is denied or allowed an operation on the resources of a pattern.
+/// Denies or allows a principal at a host an operation on the resources of a pattern (a resource type, a name and a pattern
+/// type). Its texts may be any; see `is_creatable`.
 #[derive(Clone, Debug, Drop, PartialEq, Eq)]
 pub struct Binding {
     pub kind: Kind,
@@ -25,7 +27,7 @@ pub struct Binding {
     pub permission: Permission,
 }
 
-/// A binding with its creation number.
+/// A binding with its creation number, counted from 1.
 #[derive(Debug, Drop)]
 pub struct Numbered {
     pub number: u64,
@@ -33,14 +35,14 @@ pub struct Numbered {
 }
 
 impl Binding {
-    /// Whether the binding's resource pattern matches this resource.
+    /// Whether the binding's resource pattern matches the resource of this kind and name.
     pub fn covers(&self, kind: Kind, name: &Text) -> bool
         ensures { result ≡ covers self.now kind name.now }
     {
         self.kind == kind && self.pattern.covers(&self.name, name)
     }
 
-    /// Whether the binding is for this principal at this host. `User:*` stands for every principal, and `*` for every host.
+    /// Whether the binding is for the principal `who` at this host. `User:*` stands for every principal, and `*` for every host.
     pub fn applies(&self, who: &Text, host: &Text) -> bool
         ensures { result ≡ applies self.now who.now host.now }
     {
@@ -48,7 +50,7 @@ impl Binding {
             && (self.host == *host || self.host.as_str() == ANY_HOST)
     }
 
-    /// Whether the binding is a DENY of this operation or of ALL.
+    /// Whether the binding is a DENY of this operation or of ALL. A DENY denies no operation that its own would imply.
     pub fn denies(&self, op: Operation) -> bool
         ensures { result ≡ denies self.now op }
     {

@@ -1,4 +1,4 @@
-//! The book of bindings, each under its creation number.
+//! The book of bindings (ACLs), each under its creation number.
 
 ghost use Rattle.std.specs.Prelude.{◌≡◌, ◌↔◌, ◌+◌, ◌^◌, ◌<◌, ◌≤◌, [], length, Option, Some, None, IfOk, OnOk, OnErr, IsTrue};
 ghost use Rattle.acl_binding.specs.Book.{empty_book, number_of, with_binding, with_new_binding, IsBook};
@@ -17,9 +17,9 @@ use wire_types::{Items, Shared};
 /// What adding a binding came to.
 #[derive(Clone, Copy, Debug, PartialEq, Eq)]
 pub enum Added {
-    /// It is new, under this creation number.
+    /// The binding is new, under this creation number.
     Added(u64),
-    /// An equal one stands under this creation number.
+    /// An equal binding stood already, under this creation number; nothing was added.
     There(u64),
 }
 
@@ -41,7 +41,7 @@ impl Model for Book {
 }
 
 impl Book {
-    /// A book without bindings. Creation numbers begin at 1.
+    /// A book without bindings, which takes no memory. Creation numbers begin at 1.
     pub fn new(alloc: Global) -> Book
         ensures { result ≡ empty_book }
     {
@@ -86,8 +86,8 @@ impl Book {
         number_of(&self.entries, binding)
     }
 
-    /// Puts an entry that bears the next creation number at the end, and counts that number up. An allocation failure
-    /// changes nothing.
+    /// Puts an entry at the end, and counts the next creation number up. The entry has to bear that number, and no equal binding
+    /// may be there. An allocation failure changes nothing.
     fn append(&mut self, entry: Shared<Numbered>) -> Result<(), AllocError>
         requires bound { self.old.next + 1 < 2 ^ 64 }
         requires number { entry.number ≡ self.old.next }
@@ -100,8 +100,8 @@ impl Book {
         Ok(())
     }
 
-    /// Adds a binding under the next creation number. If an equal one is there, the book stays as it is. An allocation
-    /// failure changes nothing.
+    /// Adds a binding under the next creation number. If an equal one is there, the book stays as it is. An allocation failure
+    /// changes nothing. `next` has to be below 2^64 - 1.
     pub fn add(&mut self, alloc: Global, binding: Binding) -> Result<Added, AllocError>
         requires { self.old.next + 1 < 2 ^ 64 }
         ensures ok { OnOk result (self.new ≡ with_binding self.old binding) }
@@ -118,7 +118,7 @@ impl Book {
         Ok(Added::Added(number))
     }
 
-    /// Copies of the bindings that match the filter, in creation order.
+    /// Copies of the bindings that match the filter, in creation order. An error is an allocation failure.
     pub fn matching(&self, alloc: Global, filter: &Filter) -> Result<Items<Binding>, AllocError>
         ensures { IfOk result (λ picked. picked ≡ matching_bindings self.now.entries filter.now) }
     {
@@ -137,7 +137,7 @@ impl Book {
         Ok(picked)
     }
 
-    /// Drops the bindings that match the filter.
+    /// Removes the bindings that match the filter. It allocates nothing.
     fn clean(&mut self, filter: &Filter)
         ensures { self.new ≡ without_matching self.old filter.now }
     {
@@ -145,8 +145,8 @@ impl Book {
             .retain(|entry| !filter.matches(&entry.value().binding));
     }
 
-    /// What the bindings answer to a question. A DENY goes before every ALLOW, and of several the one that was created first
-    /// is named.
+    /// What the bindings answer to a question. A DENY goes before every ALLOW, and of several the one that was created first is
+    /// named. Super users aren't known here.
     pub fn verdict(&self, question: &Question) -> Verdict
         ensures { result ≡ verdict_of self.now.entries question.now }
     {

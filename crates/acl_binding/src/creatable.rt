@@ -7,7 +7,7 @@ use crate::binding::Binding;
 use crate::words::Kind;
 use wire_types::Text;
 
-/// The one name that the cluster has.
+/// The name of the one cluster resource.
 pub const CLUSTER_NAME: &str = "kafka-cluster";
 
 /// Whether the text is a principal: `User:` and at least one character.
@@ -21,6 +21,7 @@ pub fn is_principal(text: &str) -> bool
 }
 
 /// Whether a resource of this kind may have this name: the cluster is named `kafka-cluster`, and any other name isn't empty.
+/// Topic names aren't checked further.
 fn is_resource_name(kind: Kind, name: &Text) -> bool
     ensures { result ≡ is_resource_name kind name.now }
 {
@@ -31,8 +32,8 @@ fn is_resource_name(kind: Kind, name: &Text) -> bool
 }
 
 impl Binding {
-    /// Whether CreateAcls may create the binding: it has a resource name that its kind allows, a principal `User:...` and a
-    /// host that isn't empty.
+    /// Whether CreateAcls may create the binding: it has a resource name that its kind allows, a principal `User:...` and a host
+    /// that isn't empty. `User:*` is a principal too.
     pub fn is_creatable(&self) -> bool
         ensures { result ≡ is_creatable self.now }
     {

@@ -1,5 +1,5 @@
-//! The bindings and filters that the entries of messages are: an entry holds numbers where a binding has words (Kafka protocol
-//! guide, "CreateAcls API (Key: 30)", "DeleteAcls API (Key: 31)").
+//! The bindings and filters that the entries of messages describe: an entry holds numbers where a binding has words (Kafka
+//! protocol guide, "CreateAcls API (Key: 30)", "DeleteAcls API (Key: 31)").
 
 ghost use Rattle.std.specs.Prelude.{◌≡◌, true, None, Some, IfSome, IfOk, OnErr};
 ghost use Rattle.acl_binding.specs.Creatable.{is_creatable};
@@ -12,10 +12,11 @@ use crate::words::{Kind, Operation, Pattern, Permission};
 use msg_acl::{BindingEntry, FilterEntry};
 use thiserror::Error;
 
-/// The number that stands for any word.
+/// The number that stands for any resource type, operation or permission (ANY).
 const ANY_NUMBER: i8 = 1;
 
-/// The entry is no binding that may be created, or no filter.
+/// An entry of CreateAcls is no binding that may be created, or one of a filter has an unknown number. The handlers answer it
+/// with INVALID_REQUEST.
 #[derive(Clone, Copy, Debug, PartialEq, Eq, Error)]
 #[error("the entry is no binding that may be created, or no filter")]
 pub struct BadEntry;

@@ -1,4 +1,4 @@
-//! Filters, which pick bindings.
+//! Filters, which pick bindings for DescribeAcls and DeleteAcls.
 
 ghost use Rattle.std.specs.Prelude.{◌≡◌};
 ghost use Rattle.acl_binding.specs.Filter.{matches, kind_fits, text_fits, name_fits, covering_fits, operation_fits, permission_fits};
@@ -7,20 +7,21 @@ use crate::binding::Binding;
 use crate::words::{Kind, Operation, Pattern, Permission};
 use wire_types::Text;
 
-/// How a filter takes its name.
+/// Which bindings a filter with a name picks by their name and pattern type (KIP-290), with the protocol's numbers. A filter
+/// without a name takes any name, and `Literal` and `Prefixed` then still pick by pattern type.
 #[derive(Clone, Copy, Debug, PartialEq, Eq)]
 pub enum FilterPattern {
-    /// An equal name, under any pattern.
+    /// Bindings of an equal name, whatever their pattern type.
     Any = 1,
-    /// Whatever covers the name.
+    /// Bindings whose pattern matches a resource of the filter's name: an equal literal, the literal `*`, or a prefix of it.
     Match = 2,
-    /// An equal literal name.
+    /// Literal bindings of an equal name.
     Literal = 3,
-    /// An equal prefixed name.
+    /// Prefixed bindings of an equal name.
     Prefixed = 4,
 }
 
-/// Which bindings are meant; what is `None` is any.
+/// Which bindings to pick; a field that is None matches any.
 #[derive(Clone, Debug, Drop)]
 pub struct Filter {
     pub kind: Option<Kind>,
@@ -33,7 +34,8 @@ pub struct Filter {
 }
 
 impl Filter {
-    /// Whether the filter picks the binding: each of its fields is `None` or matches.
+    /// Whether the filter picks the binding: each of its fields is None or matches. Principal and host match an equal text only,
+    /// without wildcards.
     pub fn matches(&self, binding: &Binding) -> bool
         ensures { result ≡ matches self.now binding.now }
     {
@@ -85,7 +87,7 @@ fn permission_fits(wanted: Option<Permission>, permission: Permission) -> bool
     }
 }
 
-/// Whether the binding's pattern matches the resource of this name, or the name may be any (pattern type MATCH of KIP-290).
+/// Whether the binding's pattern matches the resource of this name, or `name` is None (pattern type MATCH of KIP-290).
 fn covering_fits(name: &Option<Text>, binding: &Binding) -> bool
     ensures { result ≡ covering_fits name.now binding.now }
 {
@@ -95,8 +97,8 @@ fn covering_fits(name: &Option<Text>, binding: &Binding) -> bool
     }
 }
 
-/// Whether the binding's name and pattern type are those that the filter wants by its own (ANY, MATCH, LITERAL or PREFIXED
-/// of KIP-290).
+/// Whether the filter, by its pattern type (ANY, MATCH, LITERAL or PREFIXED of KIP-290) and its name, picks the binding's name
+/// and pattern type.
 fn name_fits(pattern: FilterPattern, name: &Option<Text>, binding: &Binding) -> bool
     ensures { result ≡ name_fits pattern name.now binding.now }
 {

@@ -15,8 +15,8 @@ pub fn verdict_is_decided()
     ensures { VerdictIsDecided }
 {}
 
-/// What a binding covers, applies to, denies and allows is what the documentation of Kafka's authorization says, as
-/// relations: a prefix is what a name goes on from, and a denial denies nothing that its operation implies.
+/// The tests of a binding (`covers`, `applies`, `denies`, `allows`) are what Kafka's documentation of authorization says, as
+/// relations: a prefix is what a name goes on from, and a DENY denies no operation that its own implies.
 pub fn tests_are_relations()
     ensures { TestsAreRelations }
 {}

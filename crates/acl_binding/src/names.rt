@@ -1,4 +1,4 @@
-//! The names that the words of a binding have in settings and in lines of the audit.
+//! The names that the words of a binding have in settings and in lines of the audit trail.
 
 ghost use Rattle.std.specs.Prelude.{◌≡◌};
 ghost use Rattle.std.specs.List.{find};
@@ -7,6 +7,7 @@ ghost use Rattle.acl_binding.specs.Names.{kind_name, kind_named, pattern_name, p
 
 use crate::words::{Kind, Operation, Pattern, Permission};
 
+/// Every kind, by rising numbers.
 pub(crate) const KINDS: [Kind; 4] = [
     Kind::Topic,
     Kind::Group,
@@ -14,8 +15,10 @@ pub(crate) const KINDS: [Kind; 4] = [
     Kind::TransactionalId,
 ];
 
+/// Every pattern type of a binding, by rising numbers.
 pub(crate) const PATTERNS: [Pattern; 2] = [Pattern::Literal, Pattern::Prefixed];
 
+/// Every operation, by rising numbers.
 pub(crate) const OPERATIONS: [Operation; 11] = [
     Operation::All,
     Operation::Read,
@@ -30,6 +33,7 @@ pub(crate) const OPERATIONS: [Operation; 11] = [
     Operation::IdempotentWrite,
 ];
 
+/// Every permission, by rising numbers.
 pub(crate) const PERMISSIONS: [Permission; 2] = [Permission::Deny, Permission::Allow];
 
 impl Kind {

@@ -1,4 +1,4 @@
-//! Callers, what they ask, and what is answered.
+//! Callers, the questions that they ask, and the verdicts.
 
 ghost use Rattle.std.specs.Prelude.{◌≡◌, IfOk};
 ghost use Rattle.std.specs.Option.{option_map};
@@ -15,7 +15,7 @@ pub struct Caller {
     pub host: Text,
 }
 
-/// May this principal at this host do this with the resource?
+/// Whether the principal `who` at this host may do this operation on the resource of this kind and name.
 #[derive(Clone, Debug, Drop)]
 pub struct Question {
     pub who: Text,
@@ -25,18 +25,19 @@ pub struct Question {
     pub name: Text,
 }
 
-/// What is answered to a question.
+/// What the bindings answer to a question. Only `Yes` permits.
 #[derive(Clone, Copy, Debug, PartialEq, Eq)]
 pub enum Verdict {
     Yes,
-    /// The creation number of the first binding that denies it.
+    /// The creation number of the first binding that denies what is asked.
     Denied(u64),
-    /// No binding denies it, and none allows it.
+    /// No binding denies what is asked, and none allows it.
     Nothing,
 }
 
 impl Caller {
-    /// The question whether the caller may do this operation on the resource of this kind and name.
+    /// The question whether the caller may do this operation on the resource of this kind and name. The texts aren't copied; an
+    /// error comes only where their count of owners is full.
     pub fn asks(&self, op: Operation, kind: Kind, name: &Text) -> Result<Question, AllocError>
         ensures { IfOk result (λ question. question ≡ question_of self.now op kind name.now) }
     {
@@ -49,7 +50,7 @@ impl Caller {
         })
     }
 
-    /// The same question about a resource whose name may be missing: `None` where it is, since then nothing is asked.
+    /// As `asks` about a resource whose name may be missing: None where it is, since then nothing is asked.
     pub fn asks_given(
         &self,
         op: Operation,

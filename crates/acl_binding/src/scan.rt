@@ -24,8 +24,8 @@ pub fn number_of(entries: &[Shared<Numbered>], binding: &Binding) -> Option<u64>
     None
 }
 
-/// The creation number of the first binding that denies what is asked, `None` if none does. The entries stand by rising
-/// numbers, so it is the least.
+/// The creation number of the first binding that denies what is asked; None if none does. The entries have to stand by rising
+/// numbers, so that it is the least.
 pub fn first_denial(entries: &[Shared<Numbered>], question: &Question) -> Option<u64>
     requires { IsRising 1 entries.now }
     ensures { result ≡ least_of (denials entries.now question.now) }
@@ -48,7 +48,7 @@ pub fn any_grant(entries: &[Shared<Numbered>], question: &Question) -> bool
         .any(|entry| entry.value().binding.is_grant(question))
 }
 
-/// Copies of the bindings that match the filter, in creation order.
+/// Copies of the bindings that match the filter, in creation order. An error is an allocation failure.
 pub fn matching(
     alloc: Global,
     entries: &[Shared<Numbered>],

@@ -25,7 +25,8 @@ impl Kind {
         self as i8
     }
 
-    /// The kind that the protocol gives this number, `None` if it is unknown.
+    /// The kind that the protocol gives this number, `None` if it is none of those above: also for ANY (1), which only filters
+    /// have, and for kinds that this broker lacks.
     #[tactic(auto, unfolding(crate::specs::WireNumbers::kind_at))]
     pub fn of_number(number: i8) -> Option<Kind>
         ensures { result ≡ kind_at number }
@@ -34,7 +35,7 @@ impl Kind {
     }
 }
 
-/// The first of these kinds that has this number.
+/// The first of these kinds that has this number, or None.
 fn kind_among(kinds: &[Kind], number: i8) -> Option<Kind>
     ensures { result ≡ find (λ k. int_eq (kind_code k) number) kinds.now }
 {
@@ -59,7 +60,7 @@ impl Pattern {
     }
 }
 
-/// The first of these pattern types that has this number.
+/// The first of these pattern types that has this number, or None.
 fn pattern_among(patterns: &[Pattern], number: i8) -> Option<Pattern>
     ensures { result ≡ find (λ p. int_eq (pattern_code p) number) patterns.now }
 {
@@ -78,7 +79,8 @@ impl Operation {
         self as i8
     }
 
-    /// The operation that the protocol gives this number, `None` if it is unknown.
+    /// The operation that the protocol gives this number, `None` if it is none of those above: also for ANY (1), which only
+    /// filters have, and for operations that this broker lacks.
     #[tactic(auto, unfolding(crate::specs::WireNumbers::operation_at))]
     pub fn of_number(number: i8) -> Option<Operation>
         ensures { result ≡ operation_at number }
@@ -87,7 +89,7 @@ impl Operation {
     }
 }
 
-/// The first of these operations that has this number.
+/// The first of these operations that has this number, or None.
 fn operation_among(operations: &[Operation], number: i8) -> Option<Operation>
     ensures { result ≡ find (λ op. int_eq (operation_code op) number) operations.now }
 {
@@ -103,7 +105,8 @@ impl Permission {
         self as i8
     }
 
-    /// The permission that the protocol gives this number, `None` if it is unknown.
+    /// The permission that the protocol gives this number: DENY for 2, ALLOW for 3. `None` for any other, so also for ANY (1),
+    /// which only filters have.
     #[tactic(auto, unfolding(crate::specs::WireNumbers::permission_at))]
     pub fn of_number(number: i8) -> Option<Permission>
         ensures { result ≡ permission_at number }
@@ -112,7 +115,7 @@ impl Permission {
     }
 }
 
-/// The first of these permissions that has this number.
+/// The first of these permissions that has this number, or None.
 fn permission_among(permissions: &[Permission], number: i8) -> Option<Permission>
     ensures { result ≡ find (λ p. int_eq (permission_code p) number) permissions.now }
 {
@@ -140,7 +143,7 @@ impl FilterPattern {
     }
 }
 
-/// The first of these pattern types of filters that has this number.
+/// The first of these pattern types of filters that has this number, or None.
 fn filter_pattern_among(patterns: &[FilterPattern], number: i8) -> Option<FilterPattern>
     ensures { result ≡ find (λ p. int_eq (filter_pattern_code p) number) patterns.now }
 {

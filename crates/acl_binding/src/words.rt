@@ -5,7 +5,7 @@ ghost use Rattle.acl_binding.specs.Binding.{implies, name_covers};
 
 use wire_types::Text;
 
-/// What kind of resource is meant.
+/// The resource type.
 #[derive(Clone, Copy, Debug, PartialEq, Eq)]
 pub enum Kind {
     Topic = 2,
@@ -14,16 +14,16 @@ pub enum Kind {
     TransactionalId = 5,
 }
 
-/// How a binding takes its name.
+/// The pattern type: how a binding's name matches the names of resources.
 #[derive(Clone, Copy, Debug, PartialEq, Eq)]
 pub enum Pattern {
-    /// The resource of that name; the name `*` is every resource.
+    /// The resource of that name; the name `*` matches every resource.
     Literal = 3,
-    /// The resources whose names begin with it.
+    /// The resources whose names begin with the binding's. `*` is no wildcard here.
     Prefixed = 4,
 }
 
-/// What is done with a resource.
+/// What is done with a resource; `All` is every operation.
 #[derive(Clone, Copy, Debug, PartialEq, Eq)]
 pub enum Operation {
     All = 2,
@@ -46,12 +46,12 @@ pub enum Permission {
     Allow = 3,
 }
 
-/// The name, and the host, that stands for all of them.
+/// The literal name that matches every resource of its kind.
 const ANY: &str = "*";
 
 impl Pattern {
-    /// Whether a resource pattern of this type with the name `own` matches the resource `name`. The literal `*` matches
-    /// every name.
+    /// Whether a resource pattern of this type with the name `own` matches the resource `name`. The literal `*` matches every
+    /// name.
     pub fn covers(self, own: &Text, name: &Text) -> bool
         ensures { result ≡ name_covers self own.now name.now }
     {

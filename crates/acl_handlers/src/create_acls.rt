@@ -1,4 +1,4 @@
-//! CreateAcls: bindings are added to the book.
+//! CreateAcls: adds bindings to the policy.
 
 ghost use Rattle.std.specs.Prelude.{[], ◌≡◌, ◌+◌, ◌<◌, ◌≤◌, ◌^◌, length, map, IfOk, OnOk};
 ghost use Rattle.acl_binding.specs.Entries.{binding_of};
@@ -36,8 +36,8 @@ fn create_acls_reply(results: Items<CreatedAcl>) -> Reply
     })
 }
 
-/// Adds the binding that an entry describes, or answers INVALID_REQUEST if it describes none that may be created. One that
-/// is there already is answered NONE too.
+/// Adds the binding that an entry describes, and answers NONE, also if an equal one is there already. Answers INVALID_REQUEST
+/// if the entry describes no binding that may be created.
 fn create(
     alloc: Global,
     policy: &mut Policy,
@@ -59,8 +59,8 @@ fn create(
     }
 }
 
-/// Adds the bindings of the entries in order, and gives an answer for each. After an allocation failure some may have been
-/// added.
+/// Adds the bindings of the entries in order, and returns an answer for each, as `create` does. An entry that is no binding
+/// doesn't keep the others out. After an allocation failure some may have been added.
 fn create_all(
     alloc: Global,
     policy: &mut Policy,
@@ -78,7 +78,7 @@ fn create_all(
     Ok(results)
 }
 
-/// The reply where nothing is created since the request was refused: the refusal's code for each entry.
+/// The reply if the request was refused and nothing is created: the refusal's code for each entry.
 fn created_none(
     alloc: Global,
     refusal: &Refusal,
@@ -98,8 +98,8 @@ fn created_none(
     Ok(create_acls_reply(results))
 }
 
-/// Handles a CreateAcls: adds the bindings if the caller may ALTER the cluster, else answers CLUSTER_AUTHORIZATION_FAILED
-/// for each.
+/// Handles a CreateAcls: adds the bindings if the caller may ALTER the cluster, and answers NONE or INVALID_REQUEST for each;
+/// else answers CLUSTER_AUTHORIZATION_FAILED for each. After an allocation failure some may have been added.
 pub fn answer_create_acls(
     alloc: Global,
     state: &mut State,

@@ -1,4 +1,4 @@
-//! DeleteAcls: what filters pick is taken out of the book.
+//! DeleteAcls: removes the bindings that filters match.
 
 ghost use Rattle.std.specs.Prelude.{[], ◌≡◌, ◌<◌, ◌^◌, map, IfOk, OnOk};
 ghost use Rattle.acl_binding.specs.Entries.{filter_of};
@@ -115,7 +115,7 @@ fn delete_all(
     Ok(results)
 }
 
-/// The reply where nothing is deleted since the request was refused: the refusal's code for each filter.
+/// The reply if the request was refused and nothing is deleted: the refusal's code for each filter.
 fn deleted_none(
     alloc: Global,
     refusal: &Refusal,
@@ -134,8 +134,9 @@ fn deleted_none(
     Ok(delete_acls_reply(results))
 }
 
-/// Handles a DeleteAcls: removes the bindings that match the filters if the caller may ALTER the cluster, else answers
-/// CLUSTER_AUTHORIZATION_FAILED for each filter.
+/// Handles a DeleteAcls: removes the bindings that match the filters, filter by filter, if the caller may ALTER the cluster,
+/// and lists them, or answers INVALID_REQUEST for an entry that is no filter; else answers CLUSTER_AUTHORIZATION_FAILED for
+/// each filter. After an allocation failure some may have been removed.
 pub fn answer_delete_acls(
     alloc: Global,
     state: &mut State,

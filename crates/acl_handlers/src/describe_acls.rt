@@ -1,4 +1,4 @@
-//! DescribeAcls: the bindings that a filter picks, resource by resource.
+//! DescribeAcls: lists the bindings that a filter matches, by resource pattern.
 
 ghost use Rattle.std.specs.Prelude.{◌≡◌, List, [], ◌∷◌, ◌++◌, IfOk, OnOk};
 ghost use Rattle.acl_binding.specs.declared.binding.Binding.{Binding as AnyBinding};
@@ -34,7 +34,7 @@ fn described_acl(binding: &Binding) -> Result<DescribedAcl, AllocError>
     })
 }
 
-/// The resource pattern of a binding as the reply lists it, with that binding alone so far.
+/// The resource pattern of a binding as the reply lists it, with this binding as its only one.
 fn begun(alloc: Global, binding: &Binding) -> Result<DescribedResource, AllocError>
     ensures { IfOk result (λ resource. resource ≡ resource_with binding.now) }
 {
@@ -48,7 +48,7 @@ fn begun(alloc: Global, binding: &Binding) -> Result<DescribedResource, AllocErr
     })
 }
 
-/// Adds a binding to the list of its resource pattern, which is begun if there is none yet.
+/// Adds a binding to the list of its resource pattern in `groups`, which is begun if there is none yet.
 fn enter(
     alloc: Global,
     groups: &mut IndexMap<Resource, DescribedResource, RandomState>,
@@ -97,8 +97,8 @@ fn describe_acls_error(alloc: Global, error: ErrorCode) -> DescribeAclsReply
     }
 }
 
-/// Handles a DescribeAcls: lists the bindings that match the filter if the caller may DESCRIBE the cluster, else answers
-/// CLUSTER_AUTHORIZATION_FAILED.
+/// Handles a DescribeAcls: lists the bindings that match the filter if the caller may DESCRIBE the cluster, or answers
+/// INVALID_REQUEST if the entry is no filter; else answers CLUSTER_AUTHORIZATION_FAILED.
 pub fn answer_describe_acls(
     alloc: Global,
     state: &State,
@@ -126,8 +126,8 @@ pub fn answer_describe_acls(
     }
 }
 
-/// The reply to a DescribeAcls, permission aside: the bindings that match the filter, or INVALID_REQUEST if the entry is no
-/// filter.
+/// The reply to a DescribeAcls of a caller who may DESCRIBE the cluster: the bindings that match the filter, or INVALID_REQUEST
+/// if the entry is no filter.
 fn described_by(
     alloc: Global,
     state: &State,

@@ -1,4 +1,4 @@
-//! The filters that entries of messages are.
+//! The filters that the entries of DescribeAcls and DeleteAcls describe.
 
 ghost use Rattle.std.specs.Prelude.{◌≡◌, IfOk};
 ghost use Rattle.acl_binding.specs.Entries.{filter_of};

@@ -1,4 +1,4 @@
-//! The resources that bindings are about, as keys.
+//! The resource patterns of bindings, as keys of a table.
 
 ghost use Rattle.std.specs.Prelude.{◌≡◌, ◌++◌, IfOk};
 ghost use Rattle.std.proofs.Common.{rules};

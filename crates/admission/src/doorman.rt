@@ -4,28 +4,28 @@ use std::io;
 use std::time::Duration;
 use wire_types::Text;
 
-/// Is told of connections that wait, and of those that aren't served, from any thread, while no core is locked. Whoever tells it
-/// doesn't go on before it returns.
+/// Is told of connections that wait for a worker, aren't served, or are closed by the server: from any thread, while no core is
+/// locked. Whoever tells it doesn't go on before it returns.
 pub trait Doorman {
-    /// A connection couldn't be accepted. Of failures one after the other, only the first is told.
+    /// A connection couldn't be accepted. Of failures in a row, only the first is told.
     fn failed(&self, _error: &io::Error) {}
 
-    /// As many connections were taken as are served in all: no more are.
+    /// So many connections were taken, as many as are served in all: no more are taken.
     fn used_up(&self, _connections: u64) {}
 
-    /// A connection was closed at once, since its host has as many as it may. This is told at most once a second.
+    /// A connection was closed at once, since its host has as many as it may. The doorman is told of at most one each second.
     fn turned_away(&self, _host: &Text) {}
 
-    /// A connection was closed, since the broker has no seat left for its session. This is told of each of them.
+    /// A connection was closed unserved, since the desk has no seat left for its session. Each of them is told.
     fn unseated(&self) {}
 
-    /// A connection was accepted, and waits for one of so many workers.
+    /// A connection was accepted, and is to be served by one of so many workers, for which it may wait.
     fn taken(&self, _workers: usize) {}
 
-    /// A worker was found for a connection of this host, which has waited for so long.
+    /// A worker takes a connection of this host, which has waited for it so long.
     fn begun(&self, _host: &Text, _waited: Duration) {}
 
-    /// A connection was closed by the server, since it was still open so long after a stop.
+    /// The server closes the connection of this session, which was still open so long after a stop.
     fn closed(&self, _session: u64, _grace: Duration) {}
 
     /// Fewer workers could be started than were asked for.

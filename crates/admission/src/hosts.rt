@@ -8,7 +8,7 @@ use std::alloc::{AllocError, Global};
 use std::marker::Model;
 use wire_types::Text;
 
-/// How many connections each host has, none more than it may. A host that has none has no entry.
+/// How many connections each host has, none more than `most`. A host that has none has no entry.
 pub struct Hosts {
     most: u64,
     table: IndexMap<String, u64>,
@@ -46,7 +46,7 @@ impl Hosts {
         }
     }
 
-    /// How many connections a host has now; 0 for a host that isn't known.
+    /// How many connections a host has; 0 for a host that isn't known.
     pub fn connections(&self, host: &Text) -> u64
         ensures is { result ≡ connections self.now host.now }
         ensures within { result ≤ self.now.most }
@@ -57,8 +57,8 @@ impl Hosts {
         }
     }
 
-    /// Counts one connection more of a host, and gives true; false, and no change, where the host has as many as it may. After an
-    /// allocation failure nothing has changed.
+    /// Counts one connection more of a host, and gives true; false, without a change, where the host has as many as it may. An
+    /// allocation failure changes nothing.
     pub fn enter(&mut self, alloc: Global, host: &Text) -> Result<bool, AllocError>
         ensures room { IfOk result
             (λ entered. IsTrue entered ↔ (connections self.old host.now < self.old.most)) }
@@ -74,7 +74,7 @@ impl Hosts {
         Ok(true)
     }
 
-    /// Counts one connection less of a host; one that has none stays as it is.
+    /// Counts one connection less of a host; without effect on a host that has none.
     pub fn leave(&mut self, host: &Text)
         ensures left { 0 < connections self.old host.now → HasOneMore self.new self.old host.now }
         ensures none { connections self.old host.now ≡ 0 → self.new ≡ self.old }

@@ -2,8 +2,8 @@
 
 ghost use Rattle.admission.specs.PaceLaws.{RateIsKept};
 
-/// At each moment at which [`Pace::charge`](crate::Pace::charge) lets a user go on, its requests so far cost no more than the
-/// time since the first of them, and a second: so it sends no more than its rate.
+/// Whatever requests a user has sent: at a moment at which it need not wait (`Pace::charge` gives 0), they cost together no more
+/// than the time since the first of them, and a second; as far as moments fit in 64 bits of nanoseconds.
 pub fn rate_is_kept()
     ensures { RateIsKept }
 {}

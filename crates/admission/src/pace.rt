@@ -1,4 +1,4 @@
-//! How fast users ask.
+//! How fast users ask: each request costs a part of a second, which passing time pays for.
 
 ghost use Rattle.std.specs.Prelude.{◌≡◌, ℕ, List, IfOk, OnOk, OnErr};
 ghost use Rattle.admission.specs.Pace.{HasPaid, cost, is_any, paid_after, paid_until, price, wait};
@@ -8,8 +8,8 @@ use std::alloc::{AllocError, Global};
 use std::marker::Model;
 use wire_types::Text;
 
-/// How many requests, and how many bytes of them, each user may send in a second; any number where it is `None`. A rate of 0
-/// counts as one of 1.
+/// How many requests, and how many bytes of requests, each user may send in a second; `None` for any number. A rate of 0 counts
+/// as one of 1.
 #[derive(Clone, Copy, Debug, PartialEq, Eq)]
 pub struct Rate {
     pub requests: Option<u64>,
@@ -19,7 +19,8 @@ pub struct Rate {
 /// The nanoseconds of a second.
 const SECOND: u64 = 1_000_000_000;
 
-/// How long so many things take at this rate a second, in nanoseconds, rounded down; nothing without a rate.
+/// How many nanoseconds `things` requests or bytes cost at a rate of so many a second, rounded down, at most `u64::MAX`; 0
+/// without a rate.
 fn cost(rate: Option<u64>, things: u64) -> u64
     ensures { result ≡ cost rate things }
 {
@@ -30,7 +31,8 @@ fn cost(rate: Option<u64>, things: u64) -> u64
     u64::try_from(nanoseconds).unwrap_or(u64::MAX)
 }
 
-/// How many nanoseconds a user must wait at `now` who has paid until `paid`: as long as that lies more than a second ahead.
+/// How many nanoseconds a user must wait at `now` that has paid until `paid`: by how much `paid` lies more than a second ahead.
+/// So a user may send a second's requests at once.
 fn wait(paid: u64, now: u64) -> u64
     ensures { result ≡ wait paid now }
 {
@@ -51,16 +53,15 @@ impl Rate {
         self.requests.is_none() && self.bytes.is_none()
     }
 
-    /// What a request of so many bytes costs, in nanoseconds: what it takes by the requests' rate or by the bytes', whichever is
-    /// more.
+    /// What a request of so many bytes costs, in nanoseconds: its cost by the requests' rate or by the bytes', whichever is more.
     fn price(&self, bytes: u64) -> u64
         ensures { result ≡ price self.now bytes }
     {
         cost(self.requests, 1).max(cost(self.bytes, bytes))
     }
 
-    /// Until when a user has paid once it has sent a request of so many bytes at `now`, and had paid until `paid` before: the
-    /// request's price counts from the later of the two.
+    /// Until which moment a user has paid that had paid until `paid`, and sends a request of so many bytes at `now`: the
+    /// request's price is added to the later of the two. Moments are nanoseconds, and end at `u64::MAX`.
     fn paid_after(&self, paid: u64, now: u64, bytes: u64) -> u64
         ensures { result ≡ paid_after self.now paid now bytes }
     {
@@ -68,7 +69,7 @@ impl Rate {
     }
 }
 
-/// Until when each user has paid for what it asked; one that hasn't asked has paid until moment 0.
+/// The rate, and until which moment, in nanoseconds, each user has paid for what it asked; 0 for one that hasn't asked.
 pub struct Pace {
     rate: Rate,
     table: IndexMap<String, u64>,
@@ -104,7 +105,7 @@ impl Pace {
         }
     }
 
-    /// Until when a user has paid, in nanoseconds; 0 for one that hasn't asked.
+    /// Until which moment a user has paid, in nanoseconds; 0 for one that hasn't asked.
     fn paid(&self, user: &Text) -> u64
         ensures { result ≡ paid_until self.now user.now }
     {
@@ -114,8 +115,8 @@ impl Pace {
         }
     }
 
-    /// Charges a user for a request of so many bytes, sent at `now` in nanoseconds: gives for how many nanoseconds its session
-    /// waits before it reads the next one. After an allocation failure nothing has changed.
+    /// Charges a user for a request of so many bytes, read at `now` in nanoseconds, and gives for how many nanoseconds the user
+    /// must wait before the next one is read. An allocation failure charges nothing.
     pub fn charge(
         &mut self,
         alloc: Global,

@@ -1,4 +1,4 @@
-//! One event by its kind, and one request by its api.
+//! Hands each event to the handler of its kind, and each request to that of its api.
 
 ghost use Rattle.std.specs.Prelude.{◌≡◌, ◌+◌, ◌<◌, ◌^◌, ◌≤◌, true, IfOk, OnOk, OnErr};
 ghost use Rattle.msg_admin.specs.Request.{Fits};
@@ -29,9 +29,9 @@ use txn_handlers::{
     answer_mark, answer_txn_offset_commit,
 };
 
-/// Handles an event: changes the world, and gives reply, refusals and what was spent. The number of events isn't raised yet
-/// (see `count`). After an allocation failure the world is as it was if the event only reads, and else may be changed in
-/// part.
+/// Handles an event: changes the world, and returns the reply, the refusals and what was spent. It doesn't raise the number of
+/// events: `count` does after the event is in the trail. After an allocation failure the world is as it was if the event only
+/// reads (`is_reading`), and else may be changed in part.
 pub fn apply(alloc: Global, state: &mut State, event: &Event) -> Result<HandlerResult, AllocError>
     requires fits { EventFits event.now }
     requires budget { most_parts ≤ offsets_left state.old.topics }
@@ -57,7 +57,7 @@ pub fn apply(alloc: Global, state: &mut State, event: &Event) -> Result<HandlerR
     }
 }
 
-/// Hands a request to the handler of its api.
+/// Hands a request of this caller to the handler of its api. Errors are as in `apply`.
 fn answer(
     alloc: Global,
     state: &mut State,
@@ -120,7 +120,7 @@ fn answer(
     }
 }
 
-/// Raises the number of events that the broker has answered by one.
+/// Raises the number of events that the broker has answered by one. Nothing else changes.
 pub fn count(state: &mut State)
     requires { state.old.events + 1 < 2 ^ 64 }
     ensures { state.new ≡ with_event_counted state.old }

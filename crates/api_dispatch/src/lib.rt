@@ -1,4 +1,5 @@
-//! Which handler an event goes to, by its kind and its api; ticks of the clock; and the table of what a request asks.
+//! Hands an event to its handler, by its kind and its api. It also answers ticks of the clock, ApiVersions, and the SASL
+//! requests that come after the login.
 #![tactic(auto)]
 
 mod dispatch;

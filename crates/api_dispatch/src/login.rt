@@ -1,4 +1,4 @@
-//! What each caller is told: the apis that are served, and that it is logged in already.
+//! The apis that all callers are answered alike: ApiVersions, and the SASL requests that come after the login.
 
 ghost use Rattle.std.specs.Prelude.{◌≡◌, [], IfOk};
 ghost use Rattle.msg_login.specs.SaslHandshake.{handshake_reply};

@@ -6,7 +6,8 @@ ghost use Rattle.api_dispatch.specs.Step.{is_reading, is_reading_request};
 use audit_trail::Event;
 use msg_admin::Request;
 
-/// Whether a request of this api only reads, so that the world is as it was after it, and after an allocation failure too.
+/// Whether a request of this api only reads, so that the world is as it was after it is answered, and after an allocation
+/// failure too.
 fn is_reading_request(request: &Request) -> bool
     ensures { result ≡ is_reading_request request.now }
 {
@@ -36,8 +37,8 @@ fn is_reading_request(request: &Request) -> bool
     }
 }
 
-/// Whether the event only reads: it changes nothing but the trail and the number of events. Marker steps and ticks don't
-/// only read.
+/// Whether the event only reads: it changes nothing but the audit trail and the number of events. `false` for marker steps and
+/// ticks.
 pub fn is_reading(event: &Event) -> bool
     ensures { result ≡ is_reading event.now }
 {

@@ -1,5 +1,5 @@
-//! A tick of the clock: the moment goes on, members that were not heard of are removed, and transactions whose time is
-//! over are aborted.
+//! A tick of the clock: the moment goes on, members whose session timed out are removed, and transactions that timed out are
+//! aborted.
 
 ghost use Rattle.std.specs.Prelude.{[]};
 ghost use Rattle.broker_world.specs.HandlerResult.{HandlerMeets};
@@ -10,8 +10,9 @@ use broker_world::{HandlerResult, State, served_whole};
 use msg_admin::Reply;
 use std::alloc::{AllocError, Global};
 
-/// Handles a tick that tells the clock's time, `told`, in milliseconds. It moves the clock on, removes members whose session
-/// timed out, and aborts transactions that timed out. The reply tells how many markers are pending.
+/// Handles a tick of the clock, which shows `told`, in milliseconds. Moves the broker's clock on, but never back, removes
+/// members whose session timed out, and aborts transactions that timed out. The reply has the number of pending markers. After
+/// an allocation failure the clock has moved and members may be removed, but no transaction is aborted.
 pub(crate) fn answer_tick(
     alloc: Global,
     state: &mut State,

@@ -1,4 +1,4 @@
-//! The laws, each the contract of a function with nothing to do.
+//! The laws of each api, each the contract of a function with nothing to do.
 
 ghost use Rattle.api_laws.specs.Runs.{WholeRuns};
 ghost use Rattle.api_laws.specs.Headline.{AnswersEachTopic, RefusesEachTopic, NullTellsDescribable};
@@ -53,7 +53,7 @@ pub fn null_metadata_tells_describable()
 {}
 
 /// At either isolation level a fetch is served the longest run of whole batches that its size limit has bytes for, up to the
-/// log's end or the last stable offset; or the first batch alone, where not even that fits and one is served anyway.
+/// log's end or the last stable offset; or the first batch alone, if not even that fits and one is forced.
 pub fn serves_what_fits()
     ensures { ServesWhatFits }
 {}
@@ -160,7 +160,8 @@ pub fn refused_edit_nothing()
     ensures { RefusedEditNothing }
 {}
 
-/// What DescribeAcls, CreateAcls and DeleteAcls are answered, and which ACLs they leave, depends only on the ACLs of before.
+/// What DescribeAcls, CreateAcls and DeleteAcls are answered, and which ACLs they leave, depends on no topic, group or
+/// transaction: two brokers with the same ACLs, super users, node, moment, number of events and producer ids agree on both.
 pub fn acls_depend_on_the_book()
     ensures { AclsDependOnTheBook }
 {}
@@ -170,12 +171,15 @@ pub fn acls_keep_topics()
     ensures { AclsKeepTopics }
 {}
 
-/// Whatever the events were, each log holds what a producer wrote in one epoch once, in order and without a gap.
+/// Whatever the events were, each log holds what a producer with an id from 0 on wrote in one epoch once, in order and without
+/// a gap: its first batch there begins at sequence number 0, and each next one where the one before ended, modulo 2^31.
 pub fn holds_once()
     ensures { HoldsOnce }
 {}
 
-/// An InitProducerId without a transactional id that is allowed gives out a producer id that was never given out before.
+/// An InitProducerId without a transactional id that is allowed gives out a producer id that was never given out before. It is
+/// allowed to whoever may WRITE to some topic, and else as IDEMPOTENT_WRITE on the cluster is. One that is refused, with a
+/// transactional id or without, changes nothing.
 pub fn inits_once()
     ensures { InitsOnce }
 {}

@@ -5,14 +5,15 @@ ghost use Rattle.arguments.specs.Serving.{IsAddress, IsPort};
 
 use crate::misused::Misused;
 
-/// Whether a text is a port number, 0 to 65535.
+/// Whether a text is a port number, 0 to 65535, in decimal digits.
 fn is_port(text: &str) -> bool
     ensures { IsTrue result ↔ IsPort text.now }
 {
     text.parse::<u16>().is_ok()
 }
 
-/// Whether a text is an address with a port, `HOST:PORT`: a port stands after its last colon, and something before that.
+/// Whether a text is `HOST:PORT`: a port number stands after its last colon, and HOST isn't empty. HOST isn't resolved or checked
+/// otherwise.
 fn is_address(text: &str) -> bool
     ensures { IsTrue result ↔ IsAddress text.now }
 {
@@ -22,7 +23,8 @@ fn is_address(text: &str) -> bool
     }
 }
 
-/// The value of `--listen`, an address with a port. The error is `Listen` where it isn't given or has no port.
+/// The value of `--listen`, `HOST:PORT`. The error is `Listen` where the option isn't given, the host is empty or the port is
+/// none.
 pub(crate) fn listen_of<'a>(text: Option<&'a str>) -> Result<&'a str, Misused>
     ensures within { IfOk result (λ address. IsAddress address.now) }
     ensures told { IfOk result (λ address. option_map (λ t. t.now) text.entry ≡ Some address.now) }

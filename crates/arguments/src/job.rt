@@ -23,9 +23,9 @@ use std::alloc::{AllocError, Global};
 /// Which script is shown, and with which answers.
 #[derive(Clone, Copy, Debug, PartialEq, Eq)]
 pub struct Showing<'a> {
-    /// The file that holds the script, if standard input doesn't.
+    /// The file that holds the script; `None` for standard input.
     pub file: Option<&'a str>,
-    /// The file that holds the answers, if they aren't made anew.
+    /// The file that holds what an earlier `replay` printed; `None` where the answers are made anew.
     pub answers: Option<&'a str>,
 }
 
@@ -42,7 +42,7 @@ pub enum Job<'a> {
     Show(Showing<'a>),
 }
 
-/// A subcommand of this name, with its short and its long help, and an example after that.
+/// A subcommand of this name, with its short and its long help; `example` follows the help.
 fn described<'a>(
     alloc: Global,
     name: &'a str,
@@ -118,7 +118,8 @@ fn command<'a>(alloc: Global) -> Result<Command<'a>, AllocError>
         .subcommand(show_command(alloc)?)
 }
 
-/// The error to print where an option of `serve` is misused: a sentence about it, above the usage of `serve`.
+/// The error to print where an option of `serve` is misused: a sentence about it, above the usage of `serve`. The outer error is
+/// an allocation failure.
 fn misuse(alloc: Global, misused: Misused) -> Result<Error, AllocError> {
     let serve = described(alloc, "serve", SERVE, SERVE_LONG, SERVE_EXAMPLE);
     let mut serve = with_options(alloc, serve.bin_name("kbroker serve")?)?;
@@ -126,7 +127,8 @@ fn misuse(alloc: Global, misused: Misused) -> Result<Error, AllocError> {
 }
 
 /// Reads the command line, whose first word is the program's own name, and gives the job that its subcommand asks for. The error
-/// holds the text to print: what isn't understood, or the help or the version, where these are asked for.
+/// holds the text to print: what isn't understood, which option of `serve` is misused, or the help or the version, where these
+/// are asked for; after an allocation failure its kind is `OutOfMemory`.
 pub fn arguments<'a>(alloc: Global, words: &'a [&'a str]) -> Result<Job<'a>, Error>
     ensures job { IfOk result (λ job. IsAsked (map (λ word. word.now) words.entry.now) job) }
     ensures refusal { IfErr result (λ error. AsksNothing (map (λ word. word.now) words.entry.now)

@@ -1,6 +1,6 @@
 //! What can be wrong with the options of `serve`.
 
-/// Which option has a value that it can't have, or goes with another that it doesn't go with.
+/// Which option of `serve` has a value that it can't have, excludes another option that is given, or lacks one that it needs.
 #[derive(Clone, Copy, Debug, PartialEq, Eq)]
 pub(crate) enum Misused {
     Listen,
@@ -21,7 +21,7 @@ pub(crate) enum Misused {
 }
 
 impl Misused {
-    /// What is wrong with the option, and which values it takes, in one sentence for the user.
+    /// Which values the option takes, or which other options it excludes or needs, in one sentence for the user.
     pub(crate) fn sentence(self) -> &'static str {
         match self {
             Misused::Listen => "--listen takes an address and a port, as in 127.0.0.1:9092",

@@ -13,7 +13,7 @@ use crate::help::{
 use clap::{Arg, ArgAction, Command};
 use std::alloc::{AllocError, Global};
 
-/// An option `--NAME` that takes a value, which the help calls `value`; `must` says that it may not be left out.
+/// An option `--NAME` that takes a value, which the help calls `value`; `must` says whether the option is required.
 pub(crate) fn option<'a>(
     alloc: Global,
     name: &'a str,
@@ -31,8 +31,8 @@ pub(crate) fn option<'a>(
         .required(must)
 }
 
-/// The option `--listen`, with the address to listen on. Who looks for `--port`, as other servers have it, is told what this one
-/// takes.
+/// The required option `--listen`, with the address to listen on. `--port` is a hidden alias of it, so that who gives a port
+/// alone reads what `--listen` takes.
 fn listen_option<'a>(alloc: Global) -> Result<Arg<'a>, AllocError>
     ensures rule { IfOk result (λ made. rule_of made ≡ listen_rule) }
     ensures local { IfOk result (λ made. made.global ≡ false) }
@@ -99,7 +99,7 @@ fn with_numbers<'a>(alloc: Global, command: Command<'a>) -> Result<Command<'a>, 
     with_three(command, listen, workers, connections)
 }
 
-/// Adds `--for` and `--idle`: after how many seconds the server stops, and an idle connection is closed.
+/// Adds `--for` and `--idle`: after how many seconds the server stops, and after how many an idle connection is closed.
 fn with_switches<'a>(alloc: Global, command: Command<'a>) -> Result<Command<'a>, AllocError>
     ensures app { IfOk result (λ made. app_of made ≡ with_serve_switches (app_of command.entry)) }
     ensures local { IfOk result
@@ -110,7 +110,8 @@ fn with_switches<'a>(alloc: Global, command: Command<'a>) -> Result<Command<'a>,
     with_two(command, open, idle)
 }
 
-/// Adds `--audit` and `--log-times`: whether refusals are told, and whether each line of standard error begins with a time.
+/// Adds `--audit` and `--log-times`: where refusals are told as they happen, and whether each line of standard error begins with
+/// a time.
 fn with_reports<'a>(alloc: Global, command: Command<'a>) -> Result<Command<'a>, AllocError>
     ensures app { IfOk result (λ made. app_of made ≡ with_serve_reports (app_of command.entry)) }
     ensures local { IfOk result
@@ -132,7 +133,7 @@ fn with_deadlines<'a>(alloc: Global, command: Command<'a>) -> Result<Command<'a>
     with_two(command, login, frame)
 }
 
-/// Adds `--endless` and `--per-host`: whether connections aren't counted, and how many one host may have at once.
+/// Adds `--endless` and `--per-host`: whether connections are served without end, and how many one host may have at once.
 fn with_shares<'a>(alloc: Global, command: Command<'a>) -> Result<Command<'a>, AllocError>
     ensures app { IfOk result (λ made. app_of made ≡ with_serve_shares (app_of command.entry)) }
     ensures local { IfOk result
@@ -165,8 +166,8 @@ fn with_steering<'a>(alloc: Global, command: Command<'a>) -> Result<Command<'a>,
     with_two(command, settings, control)
 }
 
-/// Adds `--grace` and `--stop-with-input`: how long connections stay open after a stop, and whether the end of input stops the
-/// server.
+/// Adds `--grace` and `--stop-with-input`: how many seconds connections stay open after a stop, and whether the end of standard
+/// input stops the server.
 fn with_ending<'a>(alloc: Global, command: Command<'a>) -> Result<Command<'a>, AllocError>
     ensures app { IfOk result (λ made. app_of made ≡ with_serve_ending (app_of command.entry)) }
     ensures local { IfOk result
@@ -177,7 +178,7 @@ fn with_ending<'a>(alloc: Global, command: Command<'a>) -> Result<Command<'a>, A
     with_two(command, grace, with_input)
 }
 
-/// Adds `--librdkafka`: whether ApiVersions lists what librdkafka looks for before a login.
+/// Adds `--librdkafka`: whether ApiVersions lists before a login what librdkafka looks for.
 fn with_clients<'a>(alloc: Global, command: Command<'a>) -> Result<Command<'a>, AllocError>
     ensures app { IfOk result (λ made. app_of made ≡ with_serve_clients (app_of command.entry)) }
     ensures local { IfOk result

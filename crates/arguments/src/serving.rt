@@ -11,46 +11,47 @@ use clap::ArgMatches;
 /// How a server stops.
 #[derive(Clone, Copy, Debug, PartialEq, Eq)]
 pub struct ShutdownOptions {
-    /// How many seconds after it open connections are closed, 0 to 1,000,000, if that is given.
+    /// How many seconds after a stop the connections that are still open are closed, 0 to 1,000,000; `None` where the option
+    /// isn't given.
     pub grace_seconds: Option<u64>,
-    /// Whether the end of standard input stops it.
+    /// Whether the end of standard input stops the server.
     pub with_input: bool,
 }
 
-/// How a listener's connections are served.
+/// How `serve` serves a listener's connections: the checked values of its options, with the defaults filled in.
 #[derive(Clone, Copy, Debug, PartialEq, Eq)]
 pub struct Serving<'a> {
-    /// The address to listen on, and its port after a colon.
+    /// The address to listen on, `HOST:PORT`.
     pub listen: &'a str,
     /// How many connections are served at once, 1 to 64.
     pub workers: u64,
-    /// How many are served in all, 1 to 1,000,000, if they are counted.
+    /// How many are served in all, 1 to 1,000,000; without effect where `endless` holds.
     pub connections: u64,
-    /// Whether they aren't counted.
+    /// Whether connections are served without end, and not counted.
     pub endless: bool,
-    /// How many of one host are served at once, 1 to 1,000,000, if there is a limit to it.
+    /// How many of one host are served or wait at once, 1 to 1,000,000; `None` for any number.
     pub per_host: Option<u64>,
-    /// For how many seconds connections are taken, 1 to 1,000,000, if they aren't always.
+    /// For how many seconds connections are taken, 1 to 1,000,000; `None` for always.
     pub open_seconds: Option<u64>,
-    /// After how many seconds of waiting for its peer a session ends, 1 to 1,000,000, if it ever does.
+    /// After how many seconds of waiting for its peer a session ends, 1 to 1,000,000; `None` for never.
     pub idle_seconds: Option<u64>,
-    /// Within how many seconds a session's user is known, 1 to 1,000,000.
+    /// Within how many seconds of its beginning a session's user logs in, 1 to 1,000,000.
     pub login_seconds: u64,
-    /// Within how many seconds a frame comes, from its first byte to its last, 1 to 1,000,000.
+    /// Within how many seconds a request comes, from its first byte to its last, 1 to 1,000,000.
     pub frame_seconds: u64,
-    /// How many requests each user may send in a second, 1 to 1,000,000,000, if there is a limit to it.
+    /// How many requests each user may send in a second, 1 to 1,000,000,000; `None` for any number.
     pub rate: Option<u64>,
-    /// How many bytes of them, 1 to 1,000,000,000,000, if there is a limit to it.
+    /// How many bytes of requests each user may send in a second, 1 to 1,000,000,000,000; `None` for any number.
     pub rate_bytes: Option<u64>,
-    /// Whether each refusal is told on standard error.
+    /// Whether each refusal is told on standard error as it happens.
     pub audit: bool,
-    /// Whether a time and a level stand before each line of standard error, whatever that is.
+    /// Whether each line of standard error begins with a time and a level, even where standard error is a terminal.
     pub log_times: bool,
-    /// The file that holds the settings, if standard input doesn't.
+    /// The file that holds the settings; `None` for standard input.
     pub settings: Option<&'a str>,
     /// Whether lines of standard input steer the broker, in place of the clock.
     pub control: bool,
-    /// How it stops.
+    /// How the server stops.
     pub ending: ShutdownOptions,
     /// Whether ApiVersions lists before a login what librdkafka looks for.
     pub librdkafka: bool,
@@ -74,7 +75,7 @@ const USUAL_LOGIN_SECONDS: u64 = 10;
 
 const USUAL_FRAME_SECONDS: u64 = 30;
 
-/// Reads a number from 1 to `most`; `None` where the text is none.
+/// Reads a number from 1 to `most` in decimal digits; `None` for any other text.
 fn number_of(text: &str, most: u64) -> Option<u64>
     ensures some { IfSome result (λ number. IsIn most number × Writes text.now number) }
     ensures none { IfNone result ((number : _) → IsIn most number → Writes text.now number → ⊥) }
@@ -85,8 +86,8 @@ fn number_of(text: &str, most: u64) -> Option<u64>
     }
 }
 
-/// The number of an option, from 1 to `most`, or the usual one where the option isn't given. The error is `misused`, for any
-/// other text.
+/// The number of an option, from 1 to `most`, or `usual` where the option isn't given (`text` is `None`). The error is `misused`,
+/// for any other text.
 fn number_or(text: Option<&str>, most: u64, usual: u64, misused: Misused) -> Result<u64, Misused>
     requires { IsIn most usual }
     ensures within { IfOk result (IsIn most) }
@@ -101,8 +102,8 @@ fn number_or(text: Option<&str>, most: u64, usual: u64, misused: Misused) -> Res
     }
 }
 
-/// The number of an option, from 1 to `most`, and `None` where the option isn't given. The error is `misused`, for any other
-/// text.
+/// The number of an option, from 1 to `most`; `Ok(None)` where the option isn't given (`text` is `None`). The error is `misused`,
+/// for any other text.
 fn number_if_given(text: Option<&str>, most: u64, misused: Misused) -> Result<Option<u64>, Misused>
     ensures within { IfOk result (λ told. IfSome told (IsIn most)) }
     ensures told { IfOk result (TellsIfGiven (option_map (λ t. t.now) text.entry)) }
@@ -119,7 +120,7 @@ fn number_if_given(text: Option<&str>, most: u64, misused: Misused) -> Result<Op
     }
 }
 
-/// The seconds of an option, 1 to 1,000,000, and `None` where the option isn't given. The error is `misused`, for any other text.
+/// As `number_if_given`, for seconds from 1 to 1,000,000.
 fn seconds_of(text: Option<&str>, misused: Misused) -> Result<Option<u64>, Misused>
     ensures within { IfOk result (λ told. IfSome told (IsIn 1000000)) }
     ensures told { IfOk result (TellsIfGiven (option_map (λ t. t.now) text.entry)) }
@@ -130,7 +131,7 @@ fn seconds_of(text: Option<&str>, misused: Misused) -> Result<Option<u64>, Misus
     number_if_given(text, MOST_SECONDS, misused)
 }
 
-/// The seconds of an option, 1 to 1,000,000, or the usual ones where it isn't given. The error is `misused`, for any other text.
+/// As `number_or`, for seconds from 1 to 1,000,000.
 fn seconds_or(text: Option<&str>, usual: u64, misused: Misused) -> Result<u64, Misused>
     requires { IsIn 1000000 usual }
     ensures within { IfOk result (IsIn 1000000) }
@@ -142,8 +143,8 @@ fn seconds_or(text: Option<&str>, usual: u64, misused: Misused) -> Result<u64, M
     number_or(text, MOST_SECONDS, usual, misused)
 }
 
-/// How many connections are served in all, by `--connections`: 1 to 1,000,000, and 1,000,000 where it isn't given. The error is
-/// `Endless` where it is given beside `--endless`, `Connections` where it is out of range.
+/// How many connections are served in all, by `--connections`: 1 to 1,000,000, and 1,000,000 where the option isn't given. The
+/// error is `Endless` where it is given beside `--endless`, whatever its text, and `Connections` for any other text.
 fn connections_of(text: Option<&str>, endless: bool) -> Result<u64, Misused>
     ensures within { IfOk result (IsIn 1000000) }
     ensures told { IfOk result (Tells (option_map (λ t. t.now) text.entry) 1000000) }
@@ -164,7 +165,8 @@ fn connections_of(text: Option<&str>, endless: bool) -> Result<u64, Misused>
     )
 }
 
-/// Whether refusals are told as they happen, by `--audit -`: on standard error. The error is `Audit`, for any value but `-`.
+/// Whether refusals are told on standard error as they happen, by `--audit -`; false without the option. The error is `Audit`,
+/// for any value but `-`.
 fn audit_of(text: Option<&str>) -> Result<bool, Misused>
     ensures told { IfOk result (TellsAudit (option_map (λ t. t.now) text.entry)) }
     ensures none { IfErr result
@@ -177,15 +179,15 @@ fn audit_of(text: Option<&str>) -> Result<bool, Misused>
     }
 }
 
-/// Whether a switch is given, for which clap gives the text `true`.
+/// Whether a switch is given: its value from clap is then `true`.
 fn is_given(text: Option<&str>) -> bool
     ensures { result ≡ is_given (option_map (λ t. t.now) text.entry) }
 {
     text == Some("true")
 }
 
-/// Whether `--control` is given, so that lines of standard input steer the broker. The error is `Control` where the settings come
-/// from standard input too, or `--audit` is given beside it.
+/// Whether `--control` is given, so that lines of standard input steer the broker. The error is `Control` where standard input
+/// holds the settings (`settings` is `None`), or `--audit` is given too.
 fn control_of(text: Option<&str>, settings: Option<&str>, audit: bool) -> Result<bool, Misused>
     ensures told { IfOk result (λ told. told ≡ is_given (option_map (λ t. t.now) text.entry)) }
     ensures steered { IfOk result (λ told. told ≡ true → MaySteer (is_some settings.entry) audit) }
@@ -231,7 +233,7 @@ fn grace_of(text: Option<&str>) -> Result<Option<u64>, Misused>
 }
 
 /// Whether `--stop-with-input` is given, so that the end of standard input stops the server. The error is `StopWithInput` where
-/// standard input holds the settings, or the lines of `--control`.
+/// standard input holds the settings (`settings` is `None`), or the lines of `--control`.
 fn with_input_of(text: Option<&str>, settings: Option<&str>, control: bool) -> Result<bool, Misused>
     ensures told { IfOk result (λ told. told ≡ is_given (option_map (λ t. t.now) text.entry)) }
     ensures stopped { IfOk result (λ told. told ≡ true → MayStop (is_some settings.entry) control) }
@@ -248,7 +250,7 @@ fn with_input_of(text: Option<&str>, settings: Option<&str>, control: bool) -> R
     Ok(true)
 }
 
-/// How a server stops, by `--grace` and `--stop-with-input`. The error names the option that is wrong.
+/// How a server stops, by `--grace` and `--stop-with-input`. The error names the first of them that is wrong.
 fn ending_by(
     options: &ArgMatches<'_>,
     settings: Option<&str>,
@@ -268,7 +270,8 @@ fn ending_by(
     })
 }
 
-/// Reads all options of `serve`, and checks that they go together. The error names the first one that is wrong.
+/// Reads all options of `serve`, fills in the defaults, and checks that the options go together. The error names the first one
+/// that is wrong.
 pub(crate) fn serving_by<'a>(options: &ArgMatches<'a>) -> Result<Serving<'a>, Misused>
     ensures within { IfOk result IsWithin }
     ensures served { IfOk result (IsServedBy (first_value (found_of options.now))) }

@@ -1,4 +1,4 @@
-//! Where the bindings stand that a filter with a name picks.
+//! The index keys under which the bindings stand that match a filter with a resource name.
 
 ghost use Rattle.std.specs.Prelude.{◌≡◌, ◌||◌, true, Some, IfOk, OnOk};
 ghost use Rattle.acl_binding.specs.declared.binding.Numbered.{Numbered as Entry};
@@ -10,7 +10,8 @@ use acl_binding::{Filter, FilterPattern, Kind, Pattern};
 use std::alloc::{AllocError, Global};
 use wire_types::Items;
 
-/// Under what a binding is found in the tables of the policy: the kind of its resource, its pattern, and its name.
+/// The key of bindings in the policy's index: the kind of their resource, their pattern type (LITERAL or PREFIXED) and
+/// their resource name.
 #[derive(Clone, Copy)]
 pub struct AclKey<'a> {
     pub kind: Kind,
@@ -18,7 +19,8 @@ pub struct AclKey<'a> {
     pub name: &'a str,
 }
 
-/// The keys under which all bindings stand that match the filter (KIP-290, on MATCH and ANY). `None` where the filter has no
+/// Returns keys under which all bindings stand that match the filter (KIP-290, on MATCH and ANY). Others may stand there
+/// too, since principal, host, operation and permission aren't regarded: the caller tests each. `None` if the filter has no
 /// name: then every binding has to be tested.
 pub(crate) fn acl_keys<'a>(
     alloc: Global,
@@ -32,7 +34,7 @@ pub(crate) fn acl_keys<'a>(
     }
 }
 
-/// The keys under which the bindings stand that this filter's kind and pattern type pick for this name.
+/// As `acl_keys`, for a filter whose name is `name`: the keys of its kind, or of all four kinds if it has none.
 fn keys_under<'a>(
     alloc: Global,
     name: &'a str,
@@ -73,7 +75,8 @@ fn add<'a>(
     })
 }
 
-/// Adds the keys of one kind under which bindings stand that the wanted pattern type picks for this name.
+/// Adds the keys of one kind under which bindings stand that a filter of the pattern type `wanted` and of this name
+/// matches. On an allocation failure some may have been added.
 fn add_keys<'a>(
     kind: Kind,
     name: &'a str,
@@ -99,7 +102,8 @@ fn add_keys<'a>(
     }
 }
 
-/// Adds the key of each prefixed binding that may match the name: one for each beginning of the name, up to the whole.
+/// Adds a prefixed key for each beginning of the name from the first character up to the whole: the keys of all prefixed
+/// bindings that match the name. On an allocation failure some may have been added.
 fn add_beginnings<'a>(
     kind: Kind,
     name: &'a str,

@@ -1,4 +1,4 @@
-//! What asking a policy comes to.
+//! The answer of a policy to a question: a permit, or a refusal with its reason.
 
 use crate::permit::Permit;
 use acl_binding::Question;
@@ -8,18 +8,18 @@ use acl_binding::Question;
 pub enum DenyReason {
     /// The creation number of the first binding that denies it.
     Denied(u64),
-    /// No binding allows it.
+    /// No binding denies it, and none allows it.
     Nothing,
 }
 
-/// A question that was refused.
+/// A question that was refused, and why.
 #[derive(Clone, Debug, Drop)]
 pub struct Refusal {
     pub question: Question,
     pub why: DenyReason,
 }
 
-/// A permit, which must be spent or declined, or a refusal.
+/// The answer to a question: a permit, which must be spent or declined, or a refusal.
 pub enum Answer {
     Granted(Permit),
     Refused(Refusal),

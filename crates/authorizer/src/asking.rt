@@ -33,7 +33,7 @@ pub struct GivenPermits {
     pub last: Permit,
 }
 
-/// Asks the policy, and gives the permit or the refusal.
+/// Asks the policy. `Ok` is the permit, which must be spent or declined; `Err` is the refusal with its reason.
 pub fn ask_one(policy: &Policy, question: Question) -> Result<Permit, Refusal>
     ensures granted { IfOk result (λ permit. IsGranted policy.now question permit) }
     ensures yes { OnOk result (AreYes policy.now (question ∷ [])) }
@@ -42,7 +42,8 @@ pub fn ask_one(policy: &Policy, question: Question) -> Result<Permit, Refusal>
     ask_settled(policy, policy.settle(question))
 }
 
-/// Gives the permit or the refusal of a question that the policy was already asked.
+/// As `ask_one`, for a question that this policy was already asked ([`Policy::settle`]), with no change of its bindings
+/// since.
 pub fn ask_settled(policy: &Policy, settled: Settled) -> Result<Permit, Refusal>
     requires { IsSettled policy.now settled }
     ensures granted { IfOk result (λ permit. IsGranted policy.now settled.question permit) }
@@ -55,8 +56,8 @@ pub fn ask_settled(policy: &Policy, settled: Settled) -> Result<Permit, Refusal>
     }
 }
 
-/// Both permits, or the first refusal. The first question was already asked (`Settled`). Where the second is refused, the
-/// first permit is declined.
+/// Asks for both permits, and returns them or the first refusal. `first` was already asked ([`Policy::settle`]) and holds.
+/// If the second question is refused, the first permit is declined.
 pub fn ask_two(policy: &Policy, first: Settled, second: Question) -> Result<TwoPermits, Refusal>
     requires { IsSettled policy.now first }
     ensures granted { IfOk result
@@ -74,8 +75,8 @@ pub fn ask_two(policy: &Policy, first: Settled, second: Question) -> Result<TwoP
     }
 }
 
-/// All three permits, or the first refusal. The first two questions were already asked (`Settled`). Permits that were given
-/// before a refusal are declined.
+/// As `ask_two`, but for three permits, of which the first two questions were already asked ([`Policy::settle`]). The
+/// permits that were given before a refusal are declined.
 pub fn ask_three(
     policy: &Policy,
     first: Settled,
@@ -109,8 +110,7 @@ pub fn ask_three(
     }
 }
 
-/// The permit of a first question, if there is one, and that of the last; or the first refusal. The first question was
-/// already asked (`Settled`). Where the last is refused, the first permit is declined.
+/// As `ask_two`, but without the first question if `given` is `None`.
 pub fn ask_given(
     policy: &Policy,
     given: Option<Settled>,
@@ -170,7 +170,7 @@ impl ThreePermits {
 }
 
 impl GivenPermits {
-    /// Uses up the permit of the first question, if there is one, and gives the evidence of that with the last permit,
+    /// Spends the permit of the first question, if there is one. Returns the evidence of that, and the last permit,
     /// unspent.
     pub fn last(self, policy: &Policy) -> (Option<Spent>, Permit)
         requires { IfSome self.given (IsGood policy.now) }
@@ -184,7 +184,7 @@ impl GivenPermits {
         }
     }
 
-    /// Uses up the last permit, and the first if there is one. Gives the evidence that they were spent.
+    /// Spends the last permit, and the first if there is one. Returns the evidence of both.
     pub fn spend(self, policy: &Policy) -> Paid
         requires given { IfSome self.given (IsGood policy.now) }
         requires last { IsGood policy.now self.last }

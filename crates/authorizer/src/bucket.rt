@@ -43,7 +43,8 @@ impl Bucket {
         &self.entries
     }
 
-    /// Whether some binding here allows this principal at this host to WRITE, and no DENY of the book covers all its names.
+    /// Whether some binding here allows this principal at this host to WRITE, and no DENY in `book` covers all names of
+    /// that binding.
     pub(crate) fn any_not_overridden(&self, book: &IndexedBook, who: &Text, host: &Text) -> bool
         ensures { result ≡ list_any (is_unbarred book.now.entries who.now host.now) self.now }
     {
@@ -60,7 +61,7 @@ impl Bucket {
         Ok(())
     }
 
-    /// Drops the bindings that match the filter, and tells whether any is left.
+    /// Drops the bindings that match the filter. Returns whether any is left.
     pub(crate) fn keep_unmatched(&mut self, filter: &Filter) -> bool
         ensures left { self.new ≡ kept (is_not_matched filter.now) self.old }
         ensures any { result ≡ not (nat_eq (length self.new) 0) }

@@ -10,7 +10,8 @@ use std::hash::{Hash, Hasher};
 use std::marker::Model;
 use wire_types::Shared;
 
-/// A numbered binding, which is equal to each that says the same, whatever their numbers.
+/// A numbered binding as a key of a table. It equals each binding with the same seven fields, whatever their creation
+/// numbers.
 #[derive(Drop)]
 pub struct Content {
     entry: Shared<Numbered>,

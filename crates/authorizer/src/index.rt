@@ -1,4 +1,4 @@
-//! The bindings by kind, pattern and name.
+//! The index of the bindings, by kind, pattern type and name.
 
 ghost use Rattle.std.specs.Prelude.{◌≡◌, List, [], ◌∷◌, ◌++◌, OnOk, OnErr, filter as kept};
 ghost use Rattle.std.specs.Str.{IsUtf8};
@@ -22,14 +22,14 @@ use std::alloc::{AllocError, Global};
 use std::hash::RandomState;
 use wire_types::Shared;
 
-/// The bindings of one kind.
+/// The bindings of one kind of resource, by pattern type and name.
 #[derive(Drop)]
 pub struct KindIndex {
     pub(crate) literal: Names,
     pub(crate) prefixed: Names,
 }
 
-/// The bindings of each kind.
+/// The bindings of each kind of resource, by pattern type and name.
 #[derive(Drop)]
 pub struct Index {
     topics: KindIndex,
@@ -59,8 +59,8 @@ impl KindIndex {
         }
     }
 
-    /// Adds a binding of this kind under its pattern type and name, with one more owner of it. An allocation failure changes
-    /// nothing.
+    /// Adds a binding of this kind under its pattern type and name, with one more owner of it. On an allocation failure
+    /// what was indexed stays indexed.
     fn add(&mut self, alloc: Global, entry: &Shared<Numbered>) -> Result<(), AllocError>
         ensures ok { OnOk result
             ((kind : AnyKind) (es : List Entry) → kind_number entry.now.binding.kind
@@ -153,7 +153,8 @@ impl Index {
         Ok(())
     }
 
-    /// Adds a binding, whose creation number is greater than all others. An allocation failure changes nothing.
+    /// Adds a binding, whose creation number is greater than all others. On an allocation failure what was indexed stays
+    /// indexed.
     pub(crate) fn add(&mut self, alloc: Global, entry: &Shared<Numbered>) -> Result<(), AllocError>
         ensures ok { OnOk result
             ((es : List Entry) → IsIndexed self.old es

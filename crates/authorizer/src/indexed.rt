@@ -68,7 +68,7 @@ impl IndexedBook {
         }
     }
 
-    /// What the names of bindings are hashed by.
+    /// The hasher of the names and bindings, with its random keys.
     pub(crate) fn hasher(&self) -> RandomState {
         *self.contents.hasher()
     }
@@ -81,8 +81,8 @@ impl IndexedBook {
         &self.index
     }
 
-    /// Adds a binding under the next creation number. If an equal one is there, the book stays as it is. An allocation
-    /// failure changes nothing.
+    /// Adds a binding under the next creation number (`Added::Added`). If an equal one is in the book, the book stays as it
+    /// is (`Added::There`, with that one's number). An allocation failure changes nothing.
     pub(crate) fn add(&mut self, alloc: Global, binding: Binding) -> Result<Added, AllocError>
         requires next { self.old.next + 1 < 2 ^ 64 }
         requires named { binding.pattern ≡ Prefixed → 0 < length binding.name }
@@ -101,7 +101,7 @@ impl IndexedBook {
         Ok(Added::Added(number))
     }
 
-    /// The creation number of the binding that says the same, `None` if there is none.
+    /// The creation number of the binding whose seven fields are equal, `None` if there is none.
     fn number_of(&self, content: &Content) -> Option<u64>
         ensures { result ≡ number_of self.now.entries content.now.binding }
     {
@@ -147,7 +147,7 @@ impl IndexedBook {
         copies(alloc, &self.picked(alloc, filter, &acl_keys)?)
     }
 
-    /// The bindings that match the filter, among those under the keys, or among all where `acl_keys` is `None`.
+    /// The bindings that match the filter, found among those under `acl_keys`, or among all if it is `None`.
     fn picked(
         &self,
         alloc: Global,
@@ -186,8 +186,8 @@ impl IndexedBook {
         Ok(copies)
     }
 
-    /// Removes from the book and its index what the filter picked, which stands under the keys, or anywhere where `acl_keys`
-    /// is `None`.
+    /// Removes `picked`, the bindings that match the filter, from the book and its index. They stand under `acl_keys`, or
+    /// anywhere if it is `None`.
     fn take_out(&mut self, filter: &Filter, acl_keys: &Option<Items<AclKey>>, picked: &ByNumber)
         requires acl_keys { AreAllAt acl_keys.now filter.now }
         requires picked { picked.now.entries
@@ -202,7 +202,8 @@ impl IndexedBook {
         }
     }
 
-    /// What the bindings answer to the question, DENY before ALLOW, and how many names were looked up for it.
+    /// Returns what the bindings answer to the question, DENY before ALLOW, and how many names were looked up for it. Super
+    /// users are no matter of the book.
     pub(crate) fn verdict_counted(&self, question: &Question) -> (Verdict, u64)
         ensures verdict { result.0 ≡ verdict_of self.now.entries question.now }
         ensures looked { result.1
@@ -213,8 +214,8 @@ impl IndexedBook {
         (finding.verdict(), looked)
     }
 
-    /// What the bindings that may match the question's name say to it: those of the name, of `*`, and the prefixed ones of
-    /// its beginnings. Also how many names were looked up.
+    /// Returns what the bindings say whose names may match the question's: those of the name itself, of `*`, and the
+    /// prefixed ones of its beginnings. The number is that of the names that were looked up.
     fn found(&self, question: &Question) -> (Finding, u64)
         ensures finding { result.0 ≡ finding_of self.now.entries question.now }
         ensures looked { result.1

@@ -1,4 +1,4 @@
-//! What the bindings under a name say of a question.
+//! What the bindings under a name say to a question.
 
 ghost use Rattle.std.specs.Prelude.{◌≡◌, ◌+◌, ◌^◌, ◌<◌, false, List, ℕ, length, filter as kept, None};
 ghost use Rattle.std.specs.List.{AllByRecursion};
@@ -26,7 +26,7 @@ pub struct Finding {
 }
 
 impl Finding {
-    /// What no bindings say: nothing is denied, nothing allowed.
+    /// The finding of no bindings: nothing is denied, nothing allowed.
     fn none() -> Finding
         ensures { result ≡ record { denied = None; allowed = false } }
     {
@@ -80,7 +80,7 @@ fn min_some(a: Option<u64>, b: Option<u64>) -> Option<u64>
     }
 }
 
-/// What the bindings of this name say to the question. It takes one look-up, which is counted in `looked`.
+/// Returns what the bindings of this name say to the question. Adds the one look-up that it takes to `looked`.
 pub(crate) fn look_up_name(
     names: &Names,
     name: &str,
@@ -95,8 +95,8 @@ pub(crate) fn look_up_name(
     Finding::of(names.look_up(name, looked), question)
 }
 
-/// What the prefixed bindings whose names begin the question's say to it. It takes a look-up, counted in `looked`, for each
-/// beginning that is no longer than the longest of those names.
+/// Returns what the prefixed bindings say whose names begin the question's name. `names` holds the prefixed bindings of the
+/// question's kind. Adds to `looked` one look-up for each beginning that is no longer than the longest name in `names`.
 pub(crate) fn look_up_prefixes(names: &Names, question: &Question, looked: &mut u64) -> Finding
     requires rising { (name : List ℕ) → IsRising 1 (bindings_under names.now name) }
     requires count { looked.old + length question.now.name + 1 < 2 ^ 64 }

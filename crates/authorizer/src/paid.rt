@@ -1,4 +1,4 @@
-//! What was spent for a part of a request.
+//! The evidence of what was spent for a part of a request.
 
 ghost use Rattle.std.specs.Prelude.{◌≡◌, [], ◌∷◌};
 ghost use Rattle.std.specs.List.{cons_option};
@@ -78,7 +78,7 @@ impl Paid {
         }
     }
 
-    /// For a part that needed the last permit, and a first one if it asked a first question.
+    /// For a part that needed the last permit, and before it the permit of a first question if it asked one.
     pub fn given(given: Option<Spent>, last: Spent) -> Paid
         ensures { result ≡ cons_option given (last ∷ []) }
     {

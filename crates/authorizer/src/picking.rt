@@ -35,7 +35,7 @@ pub(crate) fn pick_from(
     Ok(())
 }
 
-/// The entries that match the filter.
+/// Returns the entries that match the filter, each with one more owner.
 pub(crate) fn pick_from_all(
     alloc: Global,
     entries: &ByNumber,
@@ -65,7 +65,7 @@ pub(crate) fn copies(alloc: Global, picked: &ByNumber) -> Result<Items<Binding>,
     Ok(copies)
 }
 
-/// Removes from the entries, by their creation numbers, those that were picked.
+/// Removes from `entries` the creation numbers that are in `picked`.
 pub(crate) fn take_out(entries: &mut ByNumber, picked: &ByNumber)
     ensures { entries.new.entries ≡ without_numbers entries.old.entries (keys picked.now) }
 {
@@ -74,7 +74,7 @@ pub(crate) fn take_out(entries: &mut ByNumber, picked: &ByNumber)
     }
 }
 
-/// Removes the picked bindings from the table of what each binding says.
+/// Removes the picked bindings from `contents`, which gives each binding's creation number by its seven fields.
 pub(crate) fn forget(contents: &mut IndexMap<Content, u64, RandomState>, picked: &ByNumber)
     ensures { HasForgotten contents.old.entries contents.new.entries (values picked.now) }
 {

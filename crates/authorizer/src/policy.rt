@@ -19,7 +19,7 @@ use std::hash::RandomState;
 use std::marker::Model;
 use wire_types::{Items, Text};
 
-/// The bindings in force and the super users, with the number of changes that the book has seen.
+/// The bindings in force (the ACLs) and the super users, with the edit number: how often the bindings were changed.
 #[derive(Drop)]
 pub struct Policy {
     book: IndexedBook,
@@ -51,7 +51,7 @@ impl Policy {
         }
     }
 
-    /// What the names of bindings are hashed by. Other tables of names are to use the same.
+    /// The hasher of names, with its random keys. Other tables of names are to use the same.
     pub fn hasher(&self) -> RandomState {
         self.book.hasher()
     }
@@ -63,8 +63,8 @@ impl Policy {
         self.edit
     }
 
-    /// Adds a binding under the next creation number, and counts the edit number up. If an equal binding is there, or on an
-    /// allocation failure, nothing changes.
+    /// Adds a binding under the next creation number and counts the edit number up (`Added::Added`). If an equal binding is
+    /// in the book (`Added::There`, with its number), or on an allocation failure, nothing changes.
     pub fn add(&mut self, alloc: Global, binding: Binding) -> Result<Added, AllocError>
         requires next { self.old.book.next + 1 < 2 ^ 63 }
         requires named { binding.pattern ≡ Prefixed → 0 < length binding.name }
@@ -125,15 +125,16 @@ impl Policy {
         self.book.verdict_counted(question)
     }
 
-    /// Whether this principal at this host may have a producer id without a transactional id, since it may WRITE to some
-    /// topic: a binding allows it, and no DENY covers all names of that binding (KIP-679).
+    /// Whether the bindings let this principal at this host have a producer id without a transactional id: one allows WRITE
+    /// to some topic, and no DENY covers all names of that binding (KIP-679). Super users aren't regarded; they need no
+    /// such binding.
     pub fn any_topic(&self, who: &Text, host: &Text) -> bool
         ensures { result ≡ any_topic self.now.book.entries who.now host.now }
     {
         self.book.any_topic(who, host)
     }
 
-    /// Asks a question once for all parts of a request. What is said holds until the next change of the bindings.
+    /// Asks a question once for all parts of a request. The answer holds until the next change of the bindings.
     pub fn settle(&self, question: Question) -> Settled
         ensures { result ≡ settled_value self.now question }
     {
@@ -160,7 +161,7 @@ impl Policy {
         settled.answer()
     }
 
-    /// Whether the principal is a super user.
+    /// Whether the principal (`User:..`) is a super user.
     fn is_super(&self, who: &Text) -> bool
         ensures { result ≡ is_super self.now.supers who.now }
     {

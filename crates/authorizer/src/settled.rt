@@ -1,4 +1,4 @@
-//! A question that all parts of a request ask: the policy is asked once, and each part has its answer from that.
+//! Asking once what all parts of a request ask: each part takes its permit or refusal from the one answer.
 
 ghost use Rattle.std.specs.Prelude.{◌≡◌, IfOk};
 ghost use Rattle.authorizer.specs.Asking.{answer_by};
@@ -11,7 +11,7 @@ use acl_binding::{Question, Verdict};
 use std::alloc::AllocError;
 use std::marker::Model;
 
-/// What a policy said to a question, which holds until the next change of its book. It is made by [`Policy::settle`].
+/// A policy's answer to a question, which holds until the next change of the bindings. [`Policy::settle`] makes it.
 pub struct Settled {
     pub(crate) edit: u64,
     pub(crate) question: Question,
@@ -48,7 +48,7 @@ impl Settled {
         })
     }
 
-    /// The permit if the verdict is `Yes`, else the refusal with the reason.
+    /// Returns the permit if the verdict is `Yes`, else the refusal with the reason.
     pub(crate) fn answer(self) -> Answer
         ensures { result ≡ answer_by self.verdict self.edit self.question }
     {

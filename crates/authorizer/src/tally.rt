@@ -8,8 +8,8 @@ use crate::paid::Paid;
 use crate::permit::Spent;
 use std::marker::Model;
 
-/// The number of permits that were spent. It can't be copied, and nothing raises it but what was spent, which is used up
-/// so that it counts once. It stands still at the greatest number of 64 bits.
+/// The number of permits that were spent. It can't be copied. Only the evidence of spent permits raises it, and is used up
+/// with that, so that each counts once. It stops at `u64::MAX`.
 #[derive(Drop)]
 pub struct Tally {
     spent: u64,
@@ -31,7 +31,7 @@ impl Tally {
         Tally { spent: 0 }
     }
 
-    /// Counts the permits that were spent for a part.
+    /// Counts the permits that were spent for a part of a request: none to three.
     pub fn add(&mut self, paid: Paid)
         ensures { self.new ≡ count_after self.old paid }
     {

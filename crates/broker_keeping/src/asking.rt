@@ -1,4 +1,4 @@
-//! Lines that ask how things stand, and those that come beside a clock.
+//! Lines that ask how things stand, and their reader beside a clock.
 
 use crate::control_command::{ControlCommand, parse_control_command};
 use crate::operator_log::OperatorLog;
@@ -14,7 +14,7 @@ use std::io::{BufRead, Write};
 use std::sync::Wait;
 use std::time;
 
-/// The lines that are answered beside a clock, as an operator is told them.
+/// The lines that are answered beside a clock, as an operator reads them.
 const ASKING_LINES: &str = "`audit`, `state` and `end`";
 
 /// Lines that steer a broker, and where each is answered.
@@ -22,31 +22,31 @@ const ASKING_LINES: &str = "`audit`, `state` and `end`";
 pub struct Steering<'d, I, O> {
     pub lines: I,
     pub answers: O,
-    /// Is closed by the last line, and once all is served.
+    /// Is set by the line `end` or the end of the lines, and once all is served.
     pub closing: &'d ShutdownFlag,
-    /// Whether they steer it in place of the clock, or the broker keeps its time beside them.
+    /// Whether the lines steer the broker in place of the clock; else the broker keeps its time beside them.
     pub without_clock: bool,
 }
 
-/// Reads lines, and answers those that ask how things stand.
+/// Reads lines, and answers `audit` and `state`.
 #[derive(Drop)]
 pub(crate) struct Asking<'d, 'r, L: DeskLedger, R: Wait, I: BufRead, O: Write> {
     alloc: Global,
     pub(crate) desk: &'d LockedDesk<L, &'r R>,
     log: &'d OperatorLog<'r, R>,
     steering: Steering<'d, I, O>,
-    /// How many entries of the trail were told of.
+    /// How many entries of the trail earlier answers to `audit` cover.
     told: usize,
 }
 
-/// The refusals since the last time, and how many entries the trail has.
+/// The refusals since the last `audit`, and how many entries the trail has.
 #[derive(Drop)]
 struct Refused {
     refusals: Vec<Refusal>,
     len: usize,
 }
 
-/// The refusals in the trail's entries from this place on, and how many entries the trail has.
+/// The refusals in the trail's entries from the place `since` on, counted from 0, and how many entries the trail has.
 fn refused_since(alloc: Global, core: &Core, since: usize) -> Result<Refused, AllocError> {
     let trail = core.trail();
     Ok(Refused {
@@ -55,7 +55,7 @@ fn refused_since(alloc: Global, core: &Core, since: usize) -> Result<Refused, Al
     })
 }
 
-/// A line for each refusal, and at last `refusals N`: how many they are.
+/// The answer to `audit`: an audit line for each refusal, and at last `refusals N`.
 fn refused_text(alloc: Global, refusals: &[Refusal]) -> Result<String, AllocError> {
     let count = refusals.len();
     let mut text = lines_of(alloc, refusals)?;
@@ -71,7 +71,7 @@ impl<'d, 'r, L: DeskLedger, R: Wait + time::Clock, I: BufRead, O: Write> Asking<
     I,
     O,
 > {
-    /// Reads lines from where `steering` has them; none was read yet.
+    /// A reader of the lines of `steering`, of which none was read yet.
     pub(crate) fn new(
         alloc: Global,
         desk: &'d LockedDesk<L, &'r R>,
@@ -87,12 +87,12 @@ impl<'d, 'r, L: DeskLedger, R: Wait + time::Clock, I: BufRead, O: Write> Asking<
         }
     }
 
-    /// Writes whole lines as an answer. If that fails, nothing else does.
+    /// Writes whole lines as an answer. That the write fails isn't reported.
     pub(crate) fn answer(&mut self, lines: &str) {
         let _ = write_whole(&mut self.steering.answers, lines.as_bytes());
     }
 
-    /// Writes lines as an answer, or that an allocation failed for them.
+    /// Writes lines as an answer, or the line of `Stop::NoMemory`, where an allocation failed for them.
     pub(crate) fn answer_or_stop(&mut self, lines: Result<String, AllocError>) {
         match lines {
             Ok(lines) => self.answer(lines.as_str()),
@@ -100,7 +100,7 @@ impl<'d, 'r, L: DeskLedger, R: Wait + time::Clock, I: BufRead, O: Write> Asking<
         }
     }
 
-    /// Answers `unreadable`, since a line is none of those that may come, and tells an operator which these are.
+    /// Answers `unreadable`, since a line is none of those that may come, and warns an operator. `lines` names those that may.
     pub(crate) fn answer_unreadable(&mut self, lines: &str) {
         self.answer("unreadable\n");
         self.log.tell_unreadable(lines);
@@ -111,14 +111,14 @@ impl<'d, 'r, L: DeskLedger, R: Wait + time::Clock, I: BufRead, O: Write> Asking<
         self.steering.closing.close();
     }
 
-    /// Sets the flag that no more connections are to be taken, and tells an operator how many are still open.
+    /// As `close`, and logs for an operator how many connections a worker still serves; nothing where there are none.
     pub(crate) fn close_and_tell(&self) {
         self.close();
         self.log.tell_open();
     }
 
-    /// Reads the next line, and tells what it asks for; `None` where it is none of those that may come. The end of the lines is
-    /// the command `end`.
+    /// Reads the next line, and gives the command that it is; `None` where it is none. The end of the lines is the command `end`,
+    /// and so is a read that fails.
     pub(crate) fn read(&mut self) -> Option<ControlCommand> {
         let mut line = Vec::new(self.alloc);
         match self.steering.lines.read_until(b'\n', &mut line) {
@@ -131,7 +131,7 @@ impl<'d, 'r, L: DeskLedger, R: Wait + time::Clock, I: BufRead, O: Write> Asking<
         }
     }
 
-    /// Answers the line `state`: how things stand in the broker.
+    /// Answers the line `state`: how things stand in the broker, or the line of `Stop::NoMemory`.
     pub(crate) fn tell_state(&mut self) {
         let alloc = self.alloc;
         let lines = match self.desk.look(|core| state_report_of(alloc, core)) {
@@ -141,7 +141,8 @@ impl<'d, 'r, L: DeskLedger, R: Wait + time::Clock, I: BufRead, O: Write> Asking<
         self.answer_or_stop(lines);
     }
 
-    /// Answers the line `audit`: the refusals since it was asked last.
+    /// Answers the line `audit`: the refusals since it was answered last, or the line of `Stop::NoMemory`, after which the next
+    /// answer has these refusals too.
     pub(crate) fn tell_refusals(&mut self) {
         let (alloc, told) = (self.alloc, self.told);
         let lines = match self.desk.look(|core| refused_since(alloc, core, told)) {
@@ -158,7 +159,8 @@ impl<'d, 'r, L: DeskLedger, R: Wait + time::Clock, I: BufRead, O: Write> Asking<
     }
 }
 
-/// Reads lines beside a clock, which ask how things stand, until one of them stops the broker.
+/// Reads lines beside a clock, which ask how things stand, until the line `end`, the end of the lines or a failed read: then no
+/// more connections are taken.
 #[derive(Drop)]
 pub struct Attendant<'d, 'r, L: DeskLedger, R: Wait, I: BufRead, O: Write> {
     rt: &'r R,
@@ -173,7 +175,7 @@ impl<'d, 'r, L: DeskLedger, R: Wait + time::Clock, I: BufRead + Drop, O: Write +
     I,
     O,
 > {
-    /// Reads lines from where `steering` has them; none was read yet.
+    /// A reader of the lines of `steering`, of which none was read yet.
     pub fn new(
         rt: &'r R,
         alloc: Global,
@@ -187,8 +189,8 @@ impl<'d, 'r, L: DeskLedger, R: Wait + time::Clock, I: BufRead + Drop, O: Write +
         }
     }
 
-    /// Answers `state` and `audit`, and any other line as unreadable, until the line `end` or the end of the lines. From there on
-    /// no more connections are to be taken.
+    /// Answers `state` and `audit`, and any other line by `unreadable`, until the line `end`, the end of the lines or a failed
+    /// read. From there on no more connections are to be taken.
     pub fn attend(mut self) {
         let rt = self.rt;
         for _ in rt.forever() {

@@ -1,4 +1,4 @@
-//! The keeper's steps, by lines of whoever steers the broker.
+//! The keeper's steps, by lines that steer the broker.
 
 ghost use Rattle.std.specs.Prelude.{None};
 
@@ -15,57 +15,58 @@ use std::sync::Wait;
 use std::time;
 use txn_coordinator::PendingMarker;
 
-/// The lines that steer a broker, as an operator is told them.
+/// The lines that steer a broker in place of the clock, as an operator reads them.
 const STEERING_LINES: &str = "`tick N`, `mark`, `marks`, `audit`, `state` and `end`";
 
-/// What the keeper does for the last line.
+/// Which line the keeper's present step answers.
 #[derive(Clone, Copy, Debug, PartialEq, Eq)]
 enum InFlight {
     Nothing,
     Tick,
     Mark,
-    /// Marks, of which so many are done.
+    /// `marks`, of whose markers so many are written.
     Marks(u64),
 }
 
-/// What was seen of a step while the core was locked.
+/// What was seen of a step while the core was locked, for the answer to its line.
 #[derive(Drop)]
 enum Seen {
-    /// Nothing, since memory was refused.
+    /// Nothing: there was no step, or an allocation failed.
     Nothing,
-    /// The marker that was pending first before it.
+    /// The marker that was pending first before a mark.
     Front(Option<PendingMarker>),
-    /// Which transactions were open before it.
+    /// Which transactions were open before a tick.
     Open(Vec<bool>),
-    /// What a moment came to.
+    /// What a tick did.
     TickReport(TickReport),
 }
 
-/// What a line comes to.
+/// What a line leads to.
 enum Effect {
-    /// A step of the keeper, which is told once it is done.
+    /// A step of the keeper; the line is answered once it is done.
     Steps(InFlight, Step),
-    /// It was answered.
+    /// The line was answered.
     Answered,
     /// The keeper ends.
     Ends,
 }
 
-/// Reads lines, and answers each once its step is done. Nothing happens between two lines but what clients ask.
+/// The keeper's steps by lines: reads them, and answers each once its step is done. Between two lines the core answers only what
+/// clients ask.
 #[derive(Drop)]
 pub struct Control<'d, 'r, L: DeskLedger, R: Wait, I: BufRead, O: Write> {
     rt: &'r R,
     alloc: Global,
     asking: Asking<'d, 'r, L, R, I, O>,
     in_flight: InFlight,
-    /// How many markers are pending.
+    /// How many markers were pending after the last step.
     left: u64,
-    /// What is to be told of the step.
+    /// What the answer to the step's line tells.
     seen: Seen,
 }
 
-/// What is told of a step that was taken: the marker that was written, or the moment and which transactions it aborted. The error
-/// is an allocation failure.
+/// What is answered of a step that was taken, without a line feed: the marker that was written, or the moment and which
+/// transactions it aborted. The error is an allocation failure, now or when the step was seen.
 fn seen_text(alloc: Global, seen: &Seen) -> Result<String, AllocError> {
     match seen {
         Seen::Front(front) => front_text(alloc, front),
@@ -74,8 +75,8 @@ fn seen_text(alloc: Global, seen: &Seen) -> Result<String, AllocError> {
     }
 }
 
-/// What has to be seen in the core before a step: the transactions that are open before a tick, the marker that comes first
-/// before a mark.
+/// What has to be seen in the core before a step: the transactions that are open before a tick, the first pending marker before a
+/// mark; `Nothing` after an allocation failure.
 fn seen_before(alloc: Global, core: &Core, in_flight: InFlight) -> Seen {
     match in_flight {
         InFlight::Tick => open_ones(alloc, core).map_or(Seen::Nothing, Seen::Open),
@@ -84,7 +85,7 @@ fn seen_before(alloc: Global, core: &Core, in_flight: InFlight) -> Seen {
     }
 }
 
-/// The line that tells why a step wasn't taken, `stop N`.
+/// The line `stop N` that says why a step wasn't taken; that of `Stop::NoMemory` for any reason but a stop.
 fn stop_line(why: EndReason) -> &'static str {
     match why {
         EndReason::Stopped(stop) => stop.line(),
@@ -100,7 +101,7 @@ impl<'d, 'r, L: DeskLedger, R: Wait + time::Clock, I: BufRead, O: Write> Control
     I,
     O,
 > {
-    /// A keeper's steps by lines, of which none was read yet.
+    /// A keeper's steps by the lines of `steering`, of which none was read yet.
     pub fn new(
         rt: &'r R,
         alloc: Global,
@@ -118,14 +119,14 @@ impl<'d, 'r, L: DeskLedger, R: Wait + time::Clock, I: BufRead, O: Write> Control
         }
     }
 
-    /// Answers `markers N`, once `marks` has written all N of them.
+    /// Answers `markers N`, once `marks` has written all N pending markers.
     fn tell_markers(&mut self, count: u64) {
         self.in_flight = InFlight::Nothing;
         let line = format!(in self.alloc; "markers {count}\n");
         self.asking.answer_or_stop(line);
     }
 
-    /// Begins what the line `marks` asks for: a mark, if there is a marker to be written; else the answer is `markers 0`.
+    /// Does what the line `marks` asks for: a first mark, if a marker is pending; else the answer is `markers 0`.
     fn first_of_marks(&mut self) -> Effect {
         if self
             .asking
@@ -139,7 +140,7 @@ impl<'d, 'r, L: DeskLedger, R: Wait + time::Clock, I: BufRead, O: Write> Control
         Effect::Answered
     }
 
-    /// Does what a line asks for, or tells which step does it.
+    /// Answers a command, or gives the step that it asks for; `end` ends the keeper.
     fn obey(&mut self, command: ControlCommand) -> Effect {
         match command {
             ControlCommand::Tick(moment) => return Effect::Steps(
@@ -155,7 +156,7 @@ impl<'d, 'r, L: DeskLedger, R: Wait + time::Clock, I: BufRead, O: Write> Control
         Effect::Answered
     }
 
-    /// Answers with what a step did, `moment ..` or `marker ..`, and with how many markers are left to be written.
+    /// Answers with what a step did, `moment ..` or `marker ..`, and `owed N`: how many markers are still pending.
     fn tell_step(&mut self, left: u64) {
         self.left = left;
         let alloc = self.alloc;
@@ -174,15 +175,15 @@ impl<'d, 'r, L: DeskLedger, R: Wait + time::Clock, I: BufRead, O: Write> Control
 
 impl<'d, 'r, L: DeskLedger, R: Wait + time::Clock, I: BufRead, O: Write> Steps
     for Control<'d, 'r, L, R, I, O> {
-    /// Whoever steers the broker says when a marker is written.
+    /// The lines say when a marker is written, whether one is pending or not.
     ghost owed = { λ _. None };
 
-    /// Sees in the core what can be told of the step only if it is seen before it.
+    /// Sees in the core what the answer to the step's line needs from before the step.
     fn before(&mut self, core: &Core) {
         self.seen = seen_before(self.alloc, core, self.in_flight);
     }
 
-    /// Sees which transactions a tick has aborted.
+    /// Sees the moment and which transactions a tick has aborted.
     fn after(&mut self, core: &Core) {
         let report = match &self.seen {
             Seen::Open(open) => tick_report_of(self.alloc, core, open.as_slice()),
@@ -194,8 +195,8 @@ impl<'d, 'r, L: DeskLedger, R: Wait + time::Clock, I: BufRead, O: Write> Steps
         };
     }
 
-    /// The next step, by the next line that asks for one; lines that ask for none are answered meanwhile. After `marks` it is a
-    /// mark as long as markers are left. `None` after `end`, or where the lines end.
+    /// The step that the next line asks for; lines that ask for none are answered meanwhile. After `marks` it is a mark as long
+    /// as markers are pending. `None` after `end` or the end of the lines, and then no more connections are taken.
     fn next(&mut self, _done: bool) -> Option<Step> {
         if let InFlight::Marks(count) = self.in_flight {
             if self.left > 0 {

@@ -1,4 +1,4 @@
-//! What a line of whoever steers the broker asks for.
+//! What a line asks for that steers the broker.
 
 ghost use Rattle.std.specs.Prelude.{◌≡◌};
 ghost use Rattle.broker_keeping.specs.ControlCommand.{command_in, command_of};
@@ -6,24 +6,24 @@ ghost use Rattle.broker_keeping.specs.ControlCommand.{command_in, command_of};
 use commands::parse_number;
 use std::str::from_utf8;
 
-/// What a line asks for.
+/// A line that steers the broker or asks how things stand.
 #[derive(Clone, Copy, Debug, PartialEq, Eq)]
 pub(crate) enum ControlCommand {
     /// The clock shows a moment, in milliseconds.
     Tick(u64),
     /// The first marker that is pending is to be written.
     Mark,
-    /// All that are owed.
+    /// All pending markers are to be written.
     Marks,
-    /// The refusals since the last time.
+    /// The refusals since the last `audit` are asked for.
     Audit,
-    /// How things stand.
+    /// How things stand is asked for.
     State,
-    /// No more connections are taken.
+    /// No more connections are to be taken.
     End,
 }
 
-/// The command that a line is, `tick N`, `mark`, `marks`, `audit`, `state` or `end`; `None` for any other.
+/// The command that a line is, `tick N`, `mark`, `marks`, `audit`, `state` or `end`; `None` for any other line.
 fn parse_text(text: &str) -> Option<ControlCommand>
     ensures { result ≡ command_in text.now }
 {
@@ -52,7 +52,7 @@ fn parse_text(text: &str) -> Option<ControlCommand>
     }
 }
 
-/// What a line asks for, given without its line feed; `None` where it is no command.
+/// The command that a line is, given without its line feed; `None` where it is none, or not UTF-8.
 pub(crate) fn parse_control_command(line: &[u8]) -> Option<ControlCommand>
     ensures { result ≡ command_of line.now }
 {

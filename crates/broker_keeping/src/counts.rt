@@ -9,7 +9,7 @@ use audit_trail::{Entry, Event, Trail};
 use msg_admin::versions_reply;
 use std::alloc::{AllocError, Global};
 
-/// A kind of event.
+/// A kind of event in a trail.
 #[derive(Clone, Copy, Debug, PartialEq, Eq)]
 pub(crate) enum EventKind {
     /// A request to the api of this key.
@@ -69,7 +69,7 @@ impl Counted {
         }
     }
 
-    /// The sums of both counts.
+    /// The sums of both counts, which must fit in 64 bits.
     fn plus(self, more: Counted) -> Counted
         requires events { self.events + more.events < 2 ^ 64 }
         requires refusals { self.refusals + more.refusals < 2 ^ 64 }
@@ -103,19 +103,19 @@ pub(crate) fn count_of(trail: &Trail, kind: EventKind) -> Counted
     counted
 }
 
-/// The requests to an api.
+/// How many requests to an api there are, and how many of their parts were refused.
 #[derive(Drop)]
 struct ApiCount {
     name: String,
     counted: Counted,
 }
 
-/// What a broker has answered.
+/// How many events of each kind a broker has answered.
 #[derive(Drop)]
 pub(crate) struct Counts {
     ticks: u64,
     marks: u64,
-    /// Those that were asked, in the order of their keys.
+    /// The apis that were asked, in the order in which ApiVersions lists them.
     apis: Vec<ApiCount>,
 }
 
@@ -137,7 +137,8 @@ pub(crate) fn counts_of(alloc: Global, trail: &Trail) -> Option<Counts> {
     })
 }
 
-/// Appends how many requests to an api were answered, and how many of their parts were refused, if some were.
+/// Appends, after the text `before`, an api's name, how many requests to it were answered, and how many of their parts were
+/// refused, if some were.
 fn push_api(
     alloc: Global,
     line: &mut String,
@@ -155,7 +156,7 @@ fn push_api(
     }
 }
 
-/// The line that tells how many requests, ticks and marks were answered, and how many requests of each api.
+/// The line that says how many requests, ticks and marks were answered, and how many requests to each api that was asked.
 pub(crate) fn counts_line(alloc: Global, counts: &Counts) -> Result<String, AllocError> {
     let Counts { ticks, marks, apis } = counts;
     let mut requests: u64 = 0;

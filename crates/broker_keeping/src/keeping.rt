@@ -1,4 +1,4 @@
-//! The steps of the clock, after each of which it is told what is new.
+//! The steps of the clock, after each of which an operator reads what is new.
 
 ghost use Rattle.std.specs.Prelude.{◌≡◌, false, Some, IfSome, IsSome, is_ok};
 ghost use Rattle.session_pool.specs.Steps.{IsDue, step_event, pending_after_outcome};
@@ -10,9 +10,9 @@ use session_pool::{Clocked, DeskLedger, EndReason, Step, Steps};
 use std::sync::Wait;
 use std::time;
 
-/// Tells the keeper its steps by the clock. After each it tells an operator what is new in the trail, and where the step wasn't
-/// taken that the clock stops; and at ticks that connections wait for a worker. It waits for nobody who reads that: what the full
-/// queue doesn't take is left out.
+/// Gives the keeper its steps by the clock. After each it logs for an operator what is new in the trail, and, where the step
+/// wasn't taken, that the clock stops; at ticks it warns that connections wait for a worker. It waits for nobody who reads the
+/// log: what the full queue doesn't take is dropped.
 #[derive(Drop)]
 pub struct Timekeeper<'d, 'r, L: DeskLedger, R: Wait + time::Clock> {
     clock: Clocked<Ticks<'d, 'r, L, R>>,
@@ -20,7 +20,7 @@ pub struct Timekeeper<'d, 'r, L: DeskLedger, R: Wait + time::Clock> {
 }
 
 impl<'d, 'r, L: DeskLedger, R: Wait + time::Clock> Timekeeper<'d, 'r, L, R> {
-    /// Keeps time by this clock, and tells an operator by this watch.
+    /// Keeps time by this clock, and logs by this watch.
     pub fn new(clock: Ticks<'d, 'r, L, R>, watch: Watch<'d, 'r, L, R>) -> Timekeeper<'d, 'r, L, R> {
         Timekeeper {
             clock: Clocked::new(clock),
@@ -32,8 +32,8 @@ impl<'d, 'r, L: DeskLedger, R: Wait + time::Clock> Timekeeper<'d, 'r, L, R> {
 impl<'d, 'r, L: DeskLedger, R: Wait + time::Clock> Steps for Timekeeper<'d, 'r, L, R> {
     ghost owed = { λ keeper. Some keeper.clock.left };
 
-    /// The clock's next step, until all workers have ended and no marker is left to be written. At ticks it is looked whether
-    /// connections wait.
+    /// The clock's next step; `None` once all workers have ended (`done`) and no marker is pending, and then the last refusals
+    /// are logged. At ticks it looks whether connections wait.
     fn next(&mut self, done: bool) -> Option<Step>
         ensures step { IfSome result (λ step. IsDue (Some self.old.clock.left) (step_event step)) }
         ensures owed { self.new.clock.left ≡ self.old.clock.left }
@@ -58,7 +58,7 @@ impl<'d, 'r, L: DeskLedger, R: Wait + time::Clock> Steps for Timekeeper<'d, 'r, 
         self.watch.note(core);
     }
 
-    /// Tells an operator what was taken, and that the clock stops, where the step wasn't taken. Gives whether the clock goes on.
+    /// Logs what was taken, and warns that the clock stops, where the step wasn't taken. Gives whether the clock goes on.
     fn on_result(&mut self, outcome: Result<u64, EndReason>) -> bool
         ensures owed { Some self.new.clock.left ≡ pending_after_outcome (Some self.old.clock.left)
             outcome }

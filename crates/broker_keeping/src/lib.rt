@@ -1,4 +1,4 @@
-//! What tells the keeper of a served broker its steps, by the clock or by lines that steer it, and the log for an operator.
+//! What gives the keeper of a served broker its steps, by the clock or by lines that steer it, and the log for an operator.
 #![tactic(auto)]
 
 mod asking;

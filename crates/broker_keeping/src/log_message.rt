@@ -8,7 +8,7 @@ use std::time::SystemTime;
 /// How much a message matters.
 #[derive(Clone, Copy, Debug, PartialEq, Eq)]
 pub(crate) enum Level {
-    /// It tells how things go.
+    /// It says how things go.
     Info,
     /// Somebody should do something about it.
     Warn,
@@ -24,14 +24,14 @@ impl Level {
     }
 }
 
-/// A message.
+/// A message in the queue of the log.
 #[derive(Drop)]
 pub(crate) enum LogMessage {
-    /// Whole lines.
+    /// Whole lines, each with its line feed.
     Lines(Level, String),
-    /// Something about the session with this number, in words.
+    /// Something about the session with this number, in words without a line feed, which may be said of other sessions too.
     OfSession(u64, String),
-    /// Nothing more.
+    /// No more messages come.
     End,
 }
 
@@ -56,12 +56,12 @@ impl LogMessage {
     }
 }
 
-/// What waits for the writer of the log.
+/// A message that waits for the writer of the log.
 #[derive(Drop)]
 pub(crate) struct Queued {
-    /// When the message came, if that can be told.
+    /// When the message came; `None` where the clock couldn't be read.
     pub(crate) moment: Option<SystemTime>,
-    /// So many lines were left out before it.
+    /// How many lines were dropped before it of which no earlier message tells.
     pub(crate) dropped: u64,
     pub(crate) message: LogMessage,
 }

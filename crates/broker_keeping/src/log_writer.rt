@@ -14,10 +14,10 @@ use std::sync::Wait;
 use std::time;
 use std::time::{Duration, SystemTime};
 
-/// After so many seconds without a message it is told of how many sessions the same was said.
+/// After so many seconds without a message it is written of how many further sessions the same was said.
 const QUIET: u64 = 10;
 
-/// Writes the log for an operator, in a thread of its own: it alone waits for whoever reads that.
+/// Writes the log for an operator, in a thread of its own: that thread alone waits for whoever reads the log.
 #[derive(Drop)]
 pub struct LogWriter<E: Write> {
     alloc: Global,
@@ -25,12 +25,12 @@ pub struct LogWriter<E: Write> {
     errors: E,
     /// Whether each line begins with the time of its message, and its level.
     stamps: bool,
-    /// So many lines were dropped of which nothing is written yet.
+    /// How many lines were dropped of which nothing is written yet.
     dropped: u64,
     repeats: Repeats,
 }
 
-/// The line that tells how many lines were dropped, since the queue was full.
+/// The line that says how many lines were dropped, since the queue was full.
 fn dropped_line(alloc: Global, count: u64) -> Result<String, AllocError>
     ensures { IfOk result (λ line. string_bytes line ≡ dropped_line count) }
 {
@@ -38,7 +38,7 @@ fn dropped_line(alloc: Global, count: u64) -> Result<String, AllocError>
 }
 
 impl<E: Write + Drop> LogWriter<E> {
-    /// A writer of what comes from this queue, by which nothing was written yet.
+    /// A writer of the messages of this queue to `errors`. The error is an allocation failure.
     pub(crate) fn new(
         alloc: Global,
         from: Receiver<Queued>,
@@ -58,7 +58,8 @@ impl<E: Write + Drop> LogWriter<E> {
     /// Writes all messages in the order in which they came into the queue, until it is to end or nobody is left to send one, and
     /// gives the writer back. Where lines were dropped, it writes how many before the next message, or at the end. Where the same
     /// is said of further sessions, it writes of how many: of the first ten, of the hundred after these, and so on, and of the
-    /// others once other things were said, or nothing for ten seconds. What can't be written is lost.
+    /// others once four other things were said of sessions, no message came for ten seconds, or at `LogMessage::End`. What can't
+    /// be written is lost.
     pub fn run<R: Wait + time::Clock>(mut self, rt: &R) -> E {
         for _ in rt.forever() {
             match self.from.recv_timeout(rt, Duration::from_secs(QUIET)) {
@@ -79,7 +80,8 @@ impl<E: Write + Drop> LogWriter<E> {
         errors
     }
 
-    /// Writes a message. Gives whether more are to come: not after `End`.
+    /// Writes a message, and before it how many lines were dropped, if some were. Gives whether more messages are to come: not
+    /// after `End`.
     fn tell(&mut self, queued: Queued) -> bool {
         let Queued {
             moment,
@@ -100,6 +102,7 @@ impl<E: Write + Drop> LogWriter<E> {
     }
 
     /// Writes lines, each after its stamp, if lines get one. Where an allocation fails for the stamps, they are written without.
+    /// What can't be written is lost.
     fn write(&mut self, stamp: Stamp, lines: &str) {
         if self.stamps {
             if let Ok(stamped) = stamp.on(self.alloc, lines) {
@@ -117,7 +120,8 @@ impl<E: Write + Drop> LogWriter<E> {
         }
     }
 
-    /// Writes what is said of a session, or counts it where the same was said of another one lately.
+    /// Writes what is said of a session; where the last messages about sessions say the same, counts the session, and writes of
+    /// how many only when that is due.
     fn tell_of_session(&mut self, moment: Option<SystemTime>, session: u64, words: String) {
         let alloc = self.alloc;
         if let Some(repeated) = self.repeats.find(words.as_str()) {
@@ -134,13 +138,13 @@ impl<E: Write + Drop> LogWriter<E> {
         self.write_line(moment, Level::Info, line);
     }
 
-    /// Writes of how many more sessions the same was said than was told before.
+    /// Writes of how many more sessions the same was said than was written before; nothing where of none.
     fn tell_repeated(&mut self, moment: Option<SystemTime>, mut repeated: Repeated) {
         let line = repeated.take_line(self.alloc);
         self.write_line(moment, Level::Info, line);
     }
 
-    /// Writes, for all that was said of sessions lately, of how many more it was said, and forgets it.
+    /// Writes, for each of the last messages about sessions, of how many more it was said, and forgets it.
     fn tell_untold(&mut self, moment: Option<SystemTime>) {
         for _ in 0..self.repeats.len() {
             if let Some(repeated) = self.repeats.forget() {
@@ -149,7 +153,7 @@ impl<E: Write + Drop> LogWriter<E> {
         }
     }
 
-    /// Writes how many lines were dropped, if some were. Where an allocation fails for that, it is left for the next time.
+    /// Writes how many lines were dropped, if some were. After an allocation failure the count stays for the next time.
     fn tell_dropped(&mut self, moment: Option<SystemTime>) {
         if self.dropped == 0 {
             return;

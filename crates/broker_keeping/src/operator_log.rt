@@ -19,16 +19,16 @@ use std::time::{Duration, SystemTime};
 use std::{io, time};
 use wire_types::{Bytes, Text};
 
-/// So many messages wait for the writer at most.
+/// How many messages wait for the writer at most.
 const WAITING: usize = 1_024;
 
-/// After so long a wait for a worker it is told that a connection is served, in seconds.
+/// After how many seconds of waiting for a worker it is logged that a connection is served.
 const LONG: u64 = 1;
 
-/// The log for an operator. It gets a line for each session that ends by other than Closed, and lines about connections that wait
-/// or aren't served. Messages wait in a queue for a `LogWriter`, so nobody waits for whoever reads them: where the queue is full,
-/// they are dropped, and the next message comes with the number of their lines. A message that can't be put down makes nothing
-/// else fail.
+/// The log for an operator. It gets a line for each session that ends by other than `Closed`, and lines about connections that
+/// wait or aren't served. Messages wait in a queue for a `LogWriter`, so nobody waits for whoever reads them: where the queue is
+/// full, they are dropped, and the next message comes with the number of their lines. A message that can't be queued or allocated
+/// makes nothing else fail.
 #[derive(Drop)]
 pub struct OperatorLog<'r, R: Wait> {
     rt: &'r R,
@@ -36,21 +36,21 @@ pub struct OperatorLog<'r, R: Wait> {
     to: Sender<Queued>,
     /// How many lines were dropped of which the writer doesn't know.
     dropped: AtomicU64,
-    /// How many sessions found no seat.
+    /// How many sessions were dropped since no seat was left.
     unseated: AtomicU64,
-    /// How many connections were taken.
+    /// How many connections were accepted for a worker.
     taken: AtomicU64,
-    /// For how many of them a worker was found.
+    /// How many of those a worker has taken.
     begun: AtomicU64,
     /// How many of their sessions have ended.
     ended: AtomicU64,
-    /// How many workers there are, once a connection was taken.
+    /// How many workers there are; 0 before a connection was taken.
     workers: AtomicU64,
 }
 
 impl<'r, R: Wait + time::Clock> OperatorLog<'r, R> {
-    /// A log with an empty queue for 1,024 messages, which is allocated here, and the writer of what comes out of it. That puts
-    /// the time and the level before each line where `stamps` is set.
+    /// A log with an empty queue for 1,024 messages, which is allocated here, and the writer of what comes out of it to `errors`.
+    /// The writer puts the time and the level before each line where `stamps` is set. The error is an allocation failure.
     pub fn new<E: Write + Drop>(
         rt: &'r R,
         alloc: Global,
@@ -72,7 +72,7 @@ impl<'r, R: Wait + time::Clock> OperatorLog<'r, R> {
         Ok((log, LogWriter::new(alloc, from, errors, stamps)?))
     }
 
-    /// A message with the present moment, and the number of lines that were dropped before it.
+    /// A message with the present moment, and the number of lines that were dropped before it, which starts again at 0.
     fn queued(&self, message: LogMessage) -> Queued {
         Queued {
             moment: SystemTime::now(self.rt).ok(),
@@ -89,13 +89,13 @@ impl<'r, R: Wait + time::Clock> OperatorLog<'r, R> {
         }
     }
 
-    /// Logs whole lines that tell how things go, and neither fails nor waits for whoever reads them. Where the queue is full, or
+    /// Logs whole lines that say how things go, and neither fails nor waits for whoever reads them. Where the queue is full, or
     /// the writer is gone, they are dropped and counted.
     pub fn info(&self, lines: String) {
         self.hand(LogMessage::Lines(Level::Info, lines));
     }
 
-    /// Logs a line that tells how things go; nothing, where an allocation failed for it.
+    /// Logs a line that says how things go; nothing, where an allocation failed for it.
     fn info_line(&self, line: Result<String, AllocError>) {
         if let Ok(line) = line {
             self.info(line);
@@ -109,7 +109,7 @@ impl<'r, R: Wait + time::Clock> OperatorLog<'r, R> {
         }
     }
 
-    /// Logs words about a session; nothing, where an allocation failed for them.
+    /// Logs words about a session; nothing for `None`.
     fn info_of_session(&self, session: u64, words: Option<String>) {
         if let Some(words) = words {
             self.hand(LogMessage::OfSession(session, words));
@@ -121,8 +121,8 @@ impl<'r, R: Wait + time::Clock> OperatorLog<'r, R> {
         self.info_line(start_line(self.alloc, core, started));
     }
 
-    /// Warns where the settings tell clients another port than this one, on which a server listens: they couldn't come back.
-    /// Where a proxy stands between them, that is as it should be.
+    /// Warns where the settings tell clients another port than `listens`, on which the server listens: clients couldn't come
+    /// back, unless a proxy stands between.
     pub fn warn_of_port(&self, core: &Core, listens: u16) {
         let told = core.world().node().port;
         if told != i32::from(listens) {
@@ -132,7 +132,7 @@ impl<'r, R: Wait + time::Clock> OperatorLog<'r, R> {
         }
     }
 
-    /// Logs how many requests, ticks and marks were answered at a desk.
+    /// Logs how many requests, ticks and marks were answered at a desk; nothing after an allocation failure.
     pub fn tell_counts<L: DeskLedger>(&self, desk: &LockedDesk<L, &'r R>) {
         let alloc = self.alloc;
         if let Some(counts) = desk.look(|core| counts_of(alloc, core.trail())) {
@@ -140,7 +140,7 @@ impl<'r, R: Wait + time::Clock> OperatorLog<'r, R> {
         }
     }
 
-    /// Counts the lines of a message that is dropped, and those of which it was to tell.
+    /// Counts the lines of a message that is dropped, and the dropped lines whose number it carries.
     fn drop_message(&self, queued: Queued) {
         let Queued {
             dropped,
@@ -164,14 +164,14 @@ impl<'r, R: Wait + time::Clock> OperatorLog<'r, R> {
         ));
     }
 
-    /// Warns that a line of standard input can't be read, and which lines can.
+    /// Warns that a line of standard input can't be read, and which `lines` can.
     pub(crate) fn tell_unreadable(&self, lines: &str) {
         self.warn(format!(in self.alloc;
             "kbroker: a line of standard input can't be read: there are {lines}\n"
         ));
     }
 
-    /// How many connections have a worker.
+    /// How many connections have a worker that serves them.
     fn open(&self) -> u64 {
         let ended = self.ended.load(Ordering::SeqCst);
         let unseated = self.unseated.load(Ordering::SeqCst);
@@ -179,7 +179,7 @@ impl<'r, R: Wait + time::Clock> OperatorLog<'r, R> {
         begun.saturating_sub(ended.saturating_add(unseated))
     }
 
-    /// Logs how many connections are open, for which a stop waits, if some are.
+    /// Logs how many connections have a worker, since a stop waits for them; nothing where none has.
     pub(crate) fn tell_open(&self) {
         let open = self.open();
         if open > 0 {
@@ -189,12 +189,12 @@ impl<'r, R: Wait + time::Clock> OperatorLog<'r, R> {
         }
     }
 
-    /// How many lines were dropped since the last message that went into the queue: the writer doesn't know of them yet.
+    /// How many lines were dropped since a message last went into the queue: the writer doesn't know of them yet.
     pub fn dropped(&self) -> u64 {
         self.dropped.load(Ordering::SeqCst)
     }
 
-    /// Logs that a session ended, whose it was, and why.
+    /// Logs that a session ended, whose it was (`nobody` before a login), from which host, and why.
     fn tell_end<D: Display + Drop>(&self, session: u64, host: &Text, who: Option<&Text>, why: D) {
         let host = host.as_str();
         let who = who.map_or("nobody", |who| who.as_str());
@@ -202,8 +202,8 @@ impl<'r, R: Wait + time::Clock> OperatorLog<'r, R> {
         self.info_of_session(session, words.ok());
     }
 
-    /// Has the writer end after what it was handed. Where the queue is full this waits until it isn't, and where the writer is
-    /// gone it does nothing.
+    /// Has the writer end after the messages that are queued. Where the queue is full this waits until it isn't, and where the
+    /// writer is gone it does nothing.
     pub fn end(&self) {
         let _ = self.to.send(self.rt, self.queued(LogMessage::End));
     }
@@ -219,12 +219,12 @@ impl<'r, R: Wait + time::Clock> Gate for OperatorLog<'r, R> {
     /// Logs nothing.
     fn after(&self, _session: u64, _frame: u64) {}
 
-    /// Logs which api the frame asks, and which versions of it are served.
+    /// Logs which api the frame asks, and which versions of the api are served.
     fn malformed(&self, session: u64, kept: &[u8]) {
         self.info_of_session(session, unserved_words(self.alloc, kept));
     }
 
-    /// Logs why the session's login failed, or what it asked before that.
+    /// Logs why the session's login failed, or what it asked before the login.
     fn refused(&self, session: u64, kept: &Bytes, is_answered: bool) {
         self.info_of_session(session, refused_words(self.alloc, kept, is_answered));
     }
@@ -284,13 +284,13 @@ impl<'r, R: Wait + time::Clock> Doorman for OperatorLog<'r, R> {
         }
     }
 
-    /// Counts a connection that waits for a worker.
+    /// Counts a connection that is accepted for a worker.
     fn taken(&self, workers: usize) {
         self.workers.store(workers as u64, Ordering::SeqCst);
         self.taken.fetch_add(1, Ordering::SeqCst);
     }
 
-    /// Counts a connection for which a worker was found, and logs it where it has waited for a second or more.
+    /// Counts a connection that a worker has taken, and logs it where it has waited for a second or more.
     fn begun(&self, host: &Text, waited: Duration) {
         self.begun.fetch_add(1, Ordering::SeqCst);
         let seconds = waited.as_secs();

@@ -1,4 +1,4 @@
-//! What an operator is told of a frame that ends a session whose user isn't known.
+//! What an operator reads of a frame that ends a session whose user isn't known.
 
 use crate::unserved::{api_name, asked};
 use audit_trail::push_word;
@@ -8,11 +8,11 @@ use std::alloc::{AllocError, Global};
 use std::str::from_utf8;
 use wire_types::Bytes;
 
-/// The keys of the two apis of a login.
+/// The api keys of SaslHandshake and SaslAuthenticate.
 const LOGIN_KEYS: [i16; 2] = [17, 36];
 
-/// Appends which api a frame asks that isn't served before the login: `asks Metadata before its login`; or `asks SaslAuthenticate
-/// out of its order`, if the api belongs to the login.
+/// Appends which api a frame asks that may not be asked before the login: `asks Metadata before its login`; or
+/// `asks SaslAuthenticate out of its order`, if the api belongs to the login.
 fn push_api_before_login(alloc: Global, words: &mut String, key: i16) -> Result<(), AllocError> {
     match api_name(alloc, key) {
         Some(name) => words.push_str(format!(in alloc; "asks {name}")?.as_str())?,
@@ -25,8 +25,8 @@ fn push_api_before_login(alloc: Global, words: &mut String, key: i16) -> Result<
     }
 }
 
-/// Appends why a SaslAuthenticate was refused: its message is no PLAIN message, or no user has its name and password. The
-/// password isn't told.
+/// Appends why a SaslAuthenticate was refused: its message is no PLAIN message, its name is not UTF-8, or no user has its name
+/// and password, which is also said where its authzid is another name. The name is percent-encoded, and the password isn't told.
 fn push_login(words: &mut String, message: &[u8]) -> Result<(), AllocError> {
     let Some(name) = name_in(message) else {
         return words.push_str("sends a login that is no PLAIN message");
@@ -39,7 +39,8 @@ fn push_login(words: &mut String, message: &[u8]) -> Result<(), AllocError> {
     words.push_str(": no user has this name and password")
 }
 
-/// Appends why a message of the login was refused, a SaslHandshake's or a SaslAuthenticate's.
+/// Appends why a SaslHandshake or a SaslAuthenticate was refused, of which `kept` came; where that can't be read, that the login
+/// is longer than each user's.
 fn push_refused(alloc: Global, words: &mut String, kept: &Bytes) -> Result<(), AllocError> {
     let Ok((_header, request)) = read_request(alloc, kept) else {
         return words.push_str("sends a login that is longer than each user's");
@@ -55,7 +56,8 @@ fn push_refused(alloc: Global, words: &mut String, kept: &Bytes) -> Result<(), A
     }
 }
 
-/// What a session asked whose user isn't known, or why its login failed, in words; `None` after an allocation failure.
+/// What a session asked before its login, or, where the frame was answered, why its login failed, in words; `None` after an
+/// allocation failure, or where `kept` has fewer than four bytes.
 pub(crate) fn refused_words(alloc: Global, kept: &Bytes, is_answered: bool) -> Option<String> {
     let (key, _version) = asked(kept.as_slice())?;
     let mut words = String::new(alloc);

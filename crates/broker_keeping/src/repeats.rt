@@ -1,34 +1,34 @@
-//! Sessions of which the same is said: a client that tries again and again says nothing new.
+//! Sessions of which the log says the same: a client that tries again and again says nothing new.
 
 use circular_buffer::HeapCircularBuffer;
 use std::alloc::{AllocError, Global};
 
-/// So many different messages about sessions are kept at most, and the next one is compared with them.
+/// How many different messages about sessions are remembered at most, to compare the next one with them.
 const RECENT: usize = 4;
 
-/// Of so many more sessions the same is said until that is told the first time. From then on it takes ten times as many each
+/// Of how many more sessions the same is said until that is written the first time. From then on it takes ten times as many each
 /// time.
 const FEW: u64 = 10;
 
-/// The log's line that says something of a session.
+/// The log's line that says `words` of a session.
 pub(crate) fn session_line(alloc: Global, session: u64, words: &str) -> Result<String, AllocError> {
     format!(in alloc; "kbroker: session {session} {words}\n")
 }
 
-/// What was said of a session, and of how many more since.
+/// What the log says of a session, and of how many more since.
 #[derive(Drop)]
 pub(crate) struct Repeated {
     words: String,
     /// The latest session of which it was said.
     session: u64,
-    /// Of how many more sessions it was said than is told.
+    /// Of how many more sessions it was said than is written.
     untold: u64,
-    /// Of how many more it is said until that is told.
+    /// Of how many more sessions it must be said until that is written.
     due: u64,
 }
 
 impl Repeated {
-    /// What is said of a first session, which is told at once.
+    /// What is said of a first session, which is written at once.
     fn first(session: u64, words: String) -> Repeated {
         Repeated {
             words,
@@ -38,15 +38,15 @@ impl Repeated {
         }
     }
 
-    /// Counts one more session of which it is said. Gives whether that is to be told now.
+    /// Counts one more session of which it is said. Gives whether that is to be written.
     pub(crate) fn again(&mut self, session: u64) -> bool {
         self.session = session;
         self.untold = self.untold.saturating_add(1);
         self.due <= self.untold
     }
 
-    /// The line that tells of how many more sessions it was said, after which none is untold. `None` where none was, or after an
-    /// allocation failure.
+    /// The line that says of how many more sessions it was said, or that session's own line where of one; then counts from 0
+    /// again. `None` where of none, or after an allocation failure, which loses the count.
     pub(crate) fn take_line(&mut self, alloc: Global) -> Option<String> {
         let (untold, session) = (self.untold, self.session);
         if untold == 0 {
@@ -66,21 +66,21 @@ impl Repeated {
     }
 }
 
-/// What was said of sessions last.
+/// The last messages about sessions.
 #[derive(Drop)]
 pub(crate) struct Repeats {
     latest: HeapCircularBuffer<Repeated>,
 }
 
 impl Repeats {
-    /// Nothing was said yet. Memory for four messages is allocated here.
+    /// Remembers no message yet. Memory for four is allocated here; the error is an allocation failure.
     pub(crate) fn new(alloc: Global) -> Result<Repeats, AllocError> {
         Ok(Repeats {
             latest: HeapCircularBuffer::with_capacity(alloc, RECENT)?,
         })
     }
 
-    /// What was said in these words, if that is among the last four messages; else `None`.
+    /// The message in these words, if it is among the last four; else `None`.
     pub(crate) fn find(&mut self, words: &str) -> Option<&mut Repeated> {
         let place = self
             .latest
@@ -89,7 +89,7 @@ impl Repeats {
         self.latest.get_mut(place)
     }
 
-    /// Remembers what was said of a first session, and gives the oldest message, if that is forgotten for it.
+    /// Remembers what is said of a first session, and gives the oldest message, if it is forgotten for that.
     pub(crate) fn keep(&mut self, session: u64, words: String) -> Option<Repeated> {
         self.latest.push_back(Repeated::first(session, words))
     }

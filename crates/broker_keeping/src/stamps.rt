@@ -5,10 +5,10 @@ use jiff::Timestamp;
 use std::alloc::{AllocError, Global};
 use std::time::SystemTime;
 
-/// When something was said, and how much it matters.
+/// When something was logged, and how much it matters.
 #[derive(Clone, Copy, Debug)]
 pub(crate) struct Stamp {
-    /// None where that can't be told.
+    /// `None` where the clock couldn't be read.
     pub(crate) moment: Option<SystemTime>,
     pub(crate) level: Level,
 }
@@ -27,7 +27,7 @@ impl Stamp {
         }
     }
 
-    /// These lines, each of them after the stamp.
+    /// These lines, each of them after the stamp and with a line feed.
     pub(crate) fn on(self, alloc: Global, lines: &str) -> Result<String, AllocError> {
         let front = self.text(alloc)?;
         let mut text = String::new(alloc);

@@ -1,10 +1,10 @@
-//! What an operator is told as a server starts.
+//! What an operator reads as a server starts.
 
 use broker_world::Slot;
 use request_handlers::Core;
 use std::alloc::{AllocError, Global};
 
-/// At rest each tick is an event, and so many come in an hour.
+/// How many ticks the clock of a broker at rest makes in an hour; each is an event of the trail.
 const TICKS_AN_HOUR: u64 = 36_000;
 
 /// What a server starts with, beside its core.
@@ -29,7 +29,7 @@ fn partitions_of(slots: &[Slot]) -> u64 {
     count
 }
 
-/// Appends how many events the trail takes, and how many hours that is for a broker at rest, if that has a clock.
+/// Appends how many events the trail takes, and, where the broker has a clock, after how many hours of ticks alone it is full.
 fn push_trail(
     alloc: Global,
     line: &mut String,
@@ -44,7 +44,8 @@ fn push_trail(
     Ok(())
 }
 
-/// The line that says what is served, as a server starts: its version, node, topics, users, ACLs, workers and trail.
+/// The line that says what is served, as a server starts: its version, node, topics, partitions, users, ACLs, workers and trail.
+/// The error is an allocation failure.
 pub(crate) fn start_line(
     alloc: Global,
     core: &Core,

@@ -29,7 +29,7 @@ pub(crate) struct CommittedOffset {
     pub(crate) offset: i64,
 }
 
-/// A group, its member, and what is committed.
+/// A group, its generation, its member, if it has one, and its committed offsets.
 #[derive(Drop)]
 pub(crate) struct GroupReport {
     pub(crate) name: Text,
@@ -38,29 +38,31 @@ pub(crate) struct GroupReport {
     pub(crate) committed: Vec<CommittedOffset>,
 }
 
-/// How things stand.
+/// How things stand in a core.
 #[derive(Drop)]
 pub(crate) struct StateReport {
+    /// The core's moment, in milliseconds.
     pub(crate) moment: u64,
     /// How many markers are pending.
     pub(crate) owed: usize,
     pub(crate) topics: Vec<TopicReport>,
-    /// Those that are open or prepared.
+    /// Those that are `Ongoing`, `PrepareCommit` or `PrepareAbort`.
     pub(crate) transactions: Vec<Transaction>,
     pub(crate) groups: Vec<GroupReport>,
     /// How many entries the trail has.
     pub(crate) events: usize,
 }
 
-/// What a moment came to.
+/// What a tick did.
 #[derive(Drop)]
 pub(crate) struct TickReport {
+    /// The moment that the core shows after it.
     pub(crate) milliseconds: u64,
-    /// The transactions that it aborted.
+    /// The transactional ids whose transactions it aborted.
     pub(crate) aborted: Vec<Text>,
 }
 
-/// What is told of a topic: the log end offset and the last stable offset of each partition.
+/// The report on a topic: the log end offset and the last stable offset of each partition.
 fn topic_of(alloc: Global, slot: &Slot) -> Result<TopicReport, AllocError> {
     let mut partitions = Vec::new(alloc);
     for index in 0..slot.partitions.len() {
@@ -77,7 +79,8 @@ fn topic_of(alloc: Global, slot: &Slot) -> Result<TopicReport, AllocError> {
     })
 }
 
-/// Appends the offsets that a group has committed for the partitions of a topic.
+/// Appends the offsets that a group has committed for the partitions of a topic, in their order; none for a partition without
+/// one.
 fn push_committed(
     committed: &mut Vec<CommittedOffset>,
     group: &Group,
@@ -96,7 +99,7 @@ fn push_committed(
     Ok(())
 }
 
-/// What is told of a group: its generation, its member, and its committed offsets.
+/// The report on a group: its generation, its member, and its committed offsets, topic by topic.
 fn group_of(alloc: Global, group: &Group, slots: &[Slot]) -> Result<GroupReport, AllocError> {
     let mut committed = Vec::new(alloc);
     for slot in slots {
@@ -114,7 +117,7 @@ fn group_of(alloc: Global, group: &Group, slots: &[Slot]) -> Result<GroupReport,
     })
 }
 
-/// What is told of each topic, in their order.
+/// The report on each topic, in their order.
 fn topics_of(alloc: Global, slots: &[Slot]) -> Result<Vec<TopicReport>, AllocError> {
     let mut topics = Vec::new(alloc);
     for slot in slots {
@@ -123,7 +126,7 @@ fn topics_of(alloc: Global, slots: &[Slot]) -> Result<Vec<TopicReport>, AllocErr
     Ok(topics)
 }
 
-/// Whether a transaction in this state is open or prepared, and so is told.
+/// Whether a transaction in this state is open or prepared, and so is reported.
 fn is_shown(state: TransactionState) -> bool {
     matches!(
         state,
@@ -142,7 +145,7 @@ fn shown_of(alloc: Global, all: &[Transaction]) -> Result<Vec<Transaction>, Allo
     Ok(shown)
 }
 
-/// What is told of each group, the oldest first.
+/// The report on each group, the oldest first.
 fn groups_of(alloc: Global, world: &State) -> Result<Vec<GroupReport>, AllocError> {
     let slots = world.topics.slots();
     let mut groups = Vec::new(alloc);
@@ -152,8 +155,8 @@ fn groups_of(alloc: Global, world: &State) -> Result<Vec<GroupReport>, AllocErro
     Ok(groups)
 }
 
-/// How things stand in a core: its moment, its pending markers, topics, transactions and groups, and how many events it has
-/// answered.
+/// How things stand in a core: its moment, how many markers are pending, its topics, transactions and groups, and how many events
+/// it has answered. The error is an allocation failure.
 pub(crate) fn state_report_of(alloc: Global, core: &Core) -> Result<StateReport, AllocError> {
     let world = core.world();
     Ok(StateReport {
@@ -166,7 +169,7 @@ pub(crate) fn state_report_of(alloc: Global, core: &Core) -> Result<StateReport,
     })
 }
 
-/// The marker that is to be written next; `None` where none is pending.
+/// A copy of the marker that is to be written next; `None` where none is pending. The error is an allocation failure.
 pub(crate) fn front_of(core: &Core) -> Result<Option<PendingMarker>, AllocError> {
     match core.world().coordinator.front() {
         Some(marker) => Ok(Some(marker.clone()?)),
@@ -174,7 +177,7 @@ pub(crate) fn front_of(core: &Core) -> Result<Option<PendingMarker>, AllocError>
     }
 }
 
-/// Which of the transactions are open, in the order in which their ids were created.
+/// Which of the transactions are `Ongoing`, in the order in which their ids were created. The error is an allocation failure.
 pub(crate) fn open_ones(alloc: Global, core: &Core) -> Result<Vec<bool>, AllocError> {
     let mut open = Vec::new(alloc);
     for transaction in core.world().coordinator.transactions() {
@@ -183,7 +186,8 @@ pub(crate) fn open_ones(alloc: Global, core: &Core) -> Result<Vec<bool>, AllocEr
     Ok(open)
 }
 
-/// What a tick did: the moment that the core shows now, and which transactions were open before it and aren't any more.
+/// What a tick did: the moment that the core shows, and which transactions aren't `Ongoing` any more that were before it. `open`
+/// is what `open_ones` gave of the same core then. The error is an allocation failure.
 pub(crate) fn tick_report_of(
     alloc: Global,
     core: &Core,

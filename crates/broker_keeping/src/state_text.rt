@@ -1,4 +1,4 @@
-//! What is told of how things stand, a line for each thing.
+//! The texts that tell how things stand, what a mark wrote, and what a tick did. Names in them are percent-encoded.
 
 use crate::state_report::{CommittedOffset, GroupReport, StateReport, TickReport, TopicReport};
 use audit_trail::push_word;
@@ -6,7 +6,7 @@ use record_batch::TransactionResult;
 use std::alloc::{AllocError, Global};
 use txn_coordinator::{PendingMarker, Target, TopicPartition, Transaction, TransactionState};
 
-/// Appends ` TOPIC INDEX`.
+/// Appends ` TOPIC INDEX`, with the topic's name percent-encoded.
 fn push_partition(
     alloc: Global,
     text: &mut String,
@@ -63,7 +63,8 @@ fn push_added(
     Ok(())
 }
 
-/// Appends `transaction ID STATE producer ID epoch EPOCH began MOMENT timeout MILLISECONDS`, and what was added to it.
+/// Appends `transaction ID STATE producer ID epoch EPOCH began MOMENT timeout MILLISECONDS`, and what was added to the
+/// transaction; nothing where it is neither open nor prepared.
 fn push_transaction(
     alloc: Global,
     text: &mut String,
@@ -81,7 +82,7 @@ fn push_transaction(
     push_added(alloc, text, transaction)
 }
 
-/// Appends `committed GROUP TOPIC INDEX OFFSET`.
+/// Appends the line `committed GROUP TOPIC INDEX OFFSET`.
 fn push_committed(
     alloc: Global,
     text: &mut String,
@@ -95,7 +96,8 @@ fn push_committed(
     text.push_str(format!(in alloc; " {offset}\n")?.as_str())
 }
 
-/// Appends `group GROUP generation GENERATION`, and ` member MEMBER` where it has one; and its committed offsets.
+/// Appends the line `group GROUP generation GENERATION`, with ` member MEMBER` where the group has one, and a line for each of
+/// its committed offsets.
 fn push_group(alloc: Global, text: &mut String, group: &GroupReport) -> Result<(), AllocError> {
     let generation = group.generation;
     text.push_str("group")?;
@@ -112,8 +114,9 @@ fn push_group(alloc: Global, text: &mut String, group: &GroupReport) -> Result<(
     Ok(())
 }
 
-/// The answer to `state`, a line for each thing: the moment, the pending markers, partitions, transactions and groups, and at
-/// last `events N`, how many entries the trail has.
+/// The answer to `state`: the lines `moment M` and `owed N`, with the moment in milliseconds and the number of pending markers; a
+/// line for each partition; lines for each transaction that is open or prepared, and for each group; and at last `events N`, how
+/// many entries the trail has.
 pub(crate) fn state_text(alloc: Global, report: &StateReport) -> Result<String, AllocError> {
     let (moment, owed, events) = (report.moment, report.owed, report.events);
     let mut text = format!(in alloc; "moment {moment}\nowed {owed}\n")?;
@@ -138,7 +141,8 @@ fn outcome_name(outcome: TransactionResult) -> &'static str {
     }
 }
 
-/// `marker commit producer ID epoch EPOCH topic TOPIC INDEX`, or with `abort`, or with `group GROUP` at the end.
+/// `marker commit producer ID epoch EPOCH topic TOPIC INDEX`, or with `abort`, or with `group GROUP` at the end; without a line
+/// feed.
 fn marker_text(alloc: Global, marker: &PendingMarker) -> Result<String, AllocError> {
     let outcome = outcome_name(marker.outcome);
     let (producer, epoch) = (marker.pair.producer, marker.pair.epoch);
@@ -156,7 +160,7 @@ fn marker_text(alloc: Global, marker: &PendingMarker) -> Result<String, AllocErr
     Ok(text)
 }
 
-/// What is told of the marker that a mark writes: `marker none` where none is pending.
+/// What is answered of the marker that a mark writes: that of `marker_text`, or `marker none` where none was pending.
 pub(crate) fn front_text(
     alloc: Global,
     front: &Option<PendingMarker>,
@@ -167,7 +171,7 @@ pub(crate) fn front_text(
     }
 }
 
-/// What is told of a tick: `moment MOMENT`, and ` aborted ID` for each transaction that it aborted.
+/// What is answered of a tick: `moment MOMENT`, and ` aborted ID` for each transaction that it aborted; without a line feed.
 pub(crate) fn moment_text(alloc: Global, report: &TickReport) -> Result<String, AllocError> {
     let milliseconds = report.milliseconds;
     let mut text = format!(in alloc; "moment {milliseconds}")?;

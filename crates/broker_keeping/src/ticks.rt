@@ -11,8 +11,8 @@ use std::time::{Duration, Instant};
 const REST: u64 = 100;
 
 /// Gives the milliseconds since its start about ten times a second, until all workers have ended. Where a step of a session
-/// leaves markers pending and none were pending before, it gives them at once, since the keeper writes the markers that are
-/// pending after a tick.
+/// leaves pending markers and there were none before, it gives them at once, since the keeper writes pending markers after a
+/// tick.
 #[derive(Drop)]
 pub struct Ticks<'d, 'r, L: DeskLedger, R: Wait + time::Clock> {
     rt: &'r R,
@@ -21,7 +21,7 @@ pub struct Ticks<'d, 'r, L: DeskLedger, R: Wait + time::Clock> {
 }
 
 impl<'d, 'r, L: DeskLedger, R: Wait + time::Clock> Ticks<'d, 'r, L, R> {
-    /// A clock that starts now.
+    /// A clock that starts at once; it shows 0 for good where the system's clock can't be read.
     pub fn new(rt: &'r R, desk: &'d LockedDesk<L, &'r R>) -> Ticks<'d, 'r, L, R> {
         Ticks {
             rt,
@@ -35,8 +35,8 @@ impl<'d, 'r, L: DeskLedger, R: Wait + time::Clock> Clock for Ticks<'d, 'r, L, R>
     /// A moment until all workers have ended, and none then.
     ghost gives = { λ _ done moment _. is_some moment ≡ not done };
 
-    /// Rests for a tenth of a second, or until markers are pending, and gives the milliseconds since the start. `None` once all
-    /// workers have ended.
+    /// Rests for a tenth of a second, or until a step leaves pending markers, and gives the milliseconds since the start. `None`
+    /// at once where all workers have ended.
     fn next(&mut self, done: bool) -> Option<u64> {
         if done {
             return None;

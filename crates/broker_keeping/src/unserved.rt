@@ -1,9 +1,9 @@
-//! What an operator is told of a frame that is no request that is served.
+//! What an operator reads of a frame that is no request that is served.
 
 use msg_admin::{ApiKey, ServedApi};
 use std::alloc::Global;
 
-/// The api key and the version that a frame asks: its first four bytes. `None` where it has fewer.
+/// The api key and the version that a frame asks: its first four bytes, after the size field. `None` where it has fewer.
 pub(crate) fn asked(kept: &[u8]) -> Option<(i16, i16)> {
     match kept {
         [a, b, c, d, ..] => { Some((i16::from_be_bytes([*a, *b]), i16::from_be_bytes([*c, *d]))) }
@@ -17,8 +17,8 @@ pub(crate) fn api_name(alloc: Global, number: i16) -> Option<String> {
     format!(in alloc; "{key:?}").ok()
 }
 
-/// Which api a frame asks, and which versions of it are served, in words; `None` where the frame has fewer than four bytes, or
-/// after an allocation failure.
+/// Which api a frame asks, in words, and that it isn't served, or which of its versions are, or, where this version is, that the
+/// rest of the frame is no such request. `None` where the frame has fewer than four bytes, or after an allocation failure.
 pub(crate) fn unserved_words(alloc: Global, kept: &[u8]) -> Option<String> {
     let (number, version) = asked(kept)?;
     let Some(key) = ApiKey::of(number) else {

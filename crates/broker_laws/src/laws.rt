@@ -1,5 +1,5 @@
-//! The laws, each the contract of a function with nothing to do. Most hold of the world that any list of events reaches
-//! from any settings (`world_after_events`), and so of each core that isn't down (`cores`).
+//! The laws of the whole broker, each the contract of a function with nothing to do. Most hold of the world that any list of
+//! events reaches from any settings (`world_after_events`), and so of each core that isn't down (`cores`).
 
 ghost use Rattle.broker_world.specs.World.{World};
 ghost use Rattle.broker_laws.specs.Targets.{HasTargets};
@@ -43,7 +43,7 @@ pub fn events_are_moves()
     ensures all { EventsAreMoves }
 {}
 
-/// Each partition that a transaction takes in, and each for which a marker is pending, exists.
+/// Each partition that was added to a transaction, and each for which a marker is pending, exists.
 pub fn targets_exist()
     ensures reached { InReached HasTargets }
     ensures cores { InCores HasTargets }
@@ -92,7 +92,7 @@ pub fn commits_are_shown()
     ensures { CommitsAreShown }
 {}
 
-/// What a partition's log holds stays there, whatever event comes: batches are only appended.
+/// What a partition's log holds stays there, whatever event comes: batches and markers are only appended.
 pub fn logs_go_on()
     ensures { (w : World) → LogsGoOn w }
 {}
@@ -123,8 +123,8 @@ pub fn marks_are_not_refused()
     ensures { MarksAreNotRefused }
 {}
 
-/// The trail alone tells which events prepared an open transaction for its end: an EndTxn that was answered no error, an
-/// InitProducerId that was told CONCURRENT_TRANSACTIONS (51), and a tick after the transaction's timeout.
+/// The trail alone shows which events prepared an open transaction for its end: an EndTxn that was answered no error, an
+/// InitProducerId that was answered CONCURRENT_TRANSACTIONS (51), and a tick after the transaction's timeout.
 pub fn trail_tells()
     ensures { TrailTells }
 {}
@@ -176,8 +176,8 @@ pub fn commits_are_of_members()
     ensures { (w : World) → CommitsAreOfMembers w }
 {}
 
-/// By the numbers of the protocol guide: which error a JoinGroup, SyncGroup, Heartbeat and LeaveGroup is told; and that whoever
-/// is told one learns nothing of the group.
+/// By the numbers of the protocol guide: which error a JoinGroup, SyncGroup, Heartbeat and LeaveGroup is answered; and that
+/// whoever gets one learns nothing of the group.
 pub fn member_calls_by_number()
     ensures { (w : World) → CallsByNumber w }
 {}

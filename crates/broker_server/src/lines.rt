@@ -19,7 +19,7 @@ pub(crate) enum Unbegun {
 }
 
 impl Unbegun {
-    /// The only line that is printed by a server that isn't begun.
+    /// The only line that a server prints which isn't begun: `listen failed`, or `settings refused: NoMemory`.
     pub(crate) fn line(self) -> &'static str
         ensures { result.now ≡ unbegun_line self }
     {
@@ -33,10 +33,10 @@ impl Unbegun {
 /// Why the books are not settled.
 #[derive(Clone, Copy, Debug, PartialEq, Eq, Error)]
 pub(crate) enum Failure {
-    /// The sessions' ends are given up.
+    /// The sessions' ends were given up, or nothing was served.
     #[error(transparent)]
     Pool(#[from] PoolFault),
-    /// Receipts and trail don't fit.
+    /// Receipts and trail don't agree.
     #[error(transparent)]
     Settle(#[from] SettleFault),
 }
@@ -48,7 +48,7 @@ pub(crate) fn listening_line(alloc: Global, address: &str) -> Result<String, All
     format!(in alloc; "listening on {address}\n")
 }
 
-/// The last line, where the books are settled: `sessions S events E refusals R`.
+/// The last line, where the books are settled: `sessions S events E refusals R`. The error is an allocation failure.
 pub(crate) fn settled_line(
     alloc: Global,
     sessions: u64,

@@ -39,10 +39,10 @@ const FAILED: u8 = 1;
 pub struct ServeOptions {
     /// Which version of the program serves.
     pub version: &'static str,
-    /// How many bindings the settings have.
+    /// How many ACL bindings the settings have.
     pub bindings: usize,
     pub connections: ConnectionOptions,
-    /// Whether each refusal is told.
+    /// Whether each refusal is logged as it happens. Ignored where lines steer the broker in place of the clock.
     pub audit: bool,
     /// Whether each line of the log for an operator begins with its time and its level.
     pub log_times: bool,
@@ -67,8 +67,8 @@ fn receipts_of<L: DeskLedger>(
     ends.into_iter().map(|end| end.receipts).collect(alloc)
 }
 
-/// How many sessions have ended: those whose ends are kept, but the keeper's, and the others. `None` where 64 bits don't count
-/// them.
+/// How many sessions have ended: those whose ends are kept, without the keeper's, and the others. `None` where 64 bits don't
+/// count them.
 #[tactic(auto, using(crate::proofs::Counting::ends_at_least))]
 fn sessions_of<L: DeskLedger>(ends: &[SessionEnd<Seat<L>>], others: u64) -> Option<u64>
     requires { (owed : Option ℕ) × AreEnds owed ends.now }
@@ -78,8 +78,9 @@ fn sessions_of<L: DeskLedger>(ends: &[SessionEnd<Seat<L>>], others: u64) -> Opti
     kept.checked_add(others)
 }
 
-/// Compares the receipts of all ends with the desk's trail, and gives how many sessions there were, and what the core did. The
-/// error says why receipts and trail don't fit.
+/// Compares the receipts of all ends with the desk's trail, and gives how many sessions there were, and how many events and
+/// refusals the trail has. The error says why receipts and trail don't agree, or that an allocation failed or 64 bits don't count
+/// the sessions.
 #[tactic(auto, using(crate::proofs::Counting::counted))]
 fn settle_ends<L: DeskLedger, R: Wait + Drop>(
     alloc: Global,
@@ -103,7 +104,8 @@ fn settle_ends<L: DeskLedger, R: Wait + Drop>(
     }
 }
 
-/// Serves a listener's connections, while the keeper tells the core the time by the clock.
+/// Serves a listener's connections, while the keeper tells the core the time by the clock. Connections are taken until `closing`
+/// is set, if it is given.
 fn serve_clocked<
     'x,
     'r,
@@ -127,8 +129,8 @@ fn serve_clocked<
     serve_connections(here, alloc, desk, service, closing, keeper, log)
 }
 
-/// Serves a listener's connections by the clock, while a thread of its own reads and answers lines. Where no thread can be made
-/// for that, nothing is served.
+/// Serves a listener's connections by the clock, while a thread of its own reads and answers lines, until all is served and the
+/// lines end. Where no thread can be made for the lines, nothing is served, and the error is `NoThread`.
 fn serve_attended<
     'x,
     'r,
@@ -219,8 +221,8 @@ fn serve_steps<
     serve_connections(here, alloc, desk, service, closing, keeper, log)
 }
 
-/// Serves a listener's connections, while a thread of its own writes the log for an operator. Where none can be made for it,
-/// nothing is served. It returns once the log is written, or can't be.
+/// Serves a listener's connections, while a thread of its own writes the log for an operator. Where no thread can be made for the
+/// log, nothing is served, and the error is `NoThread`. It returns once the log is written, or can't be.
 fn serve_kept<
     'x,
     'r,
@@ -258,8 +260,8 @@ fn serve_kept<
     )
 }
 
-/// Serves a listener's connections at a desk, whose core it settles then: gives how many sessions there were, and what the core
-/// did.
+/// Serves a listener's connections at a desk, and then settles its core: gives how many sessions there were, and how many events
+/// and refusals the trail has. `blank` is the ledger of the desk, still empty: it has a part for each seat, and one more.
 fn serve_at<
     'r,
     L: DeskLedger + Send + Sync,
@@ -289,7 +291,7 @@ fn serve_at<
     }
 }
 
-/// Serves a listener's connections with a ledger of its own, by which each event gets its receipt, and settles the books.
+/// As `serve_at`, with a ledger of its own, by which each event gets its receipt.
 fn serve_booked<
     'r,
     R: Net<Listener = TcpListener, Stream = TcpStream> + Threads + Wait + time::Clock + Sync,
@@ -319,8 +321,8 @@ fn keeps_time<I, O>(steering: &Option<Steering<'_, I, O>>) -> bool {
     }
 }
 
-/// Serves a listener's connections, while the log for an operator is written, which begins with what is served; and settles the
-/// books.
+/// As `serve_booked`, while the log for an operator is written to `errors`, which begins with what is served and with a warning
+/// where clients are told another port. The error is also `Pool` where an allocation fails for the log.
 fn serve_told<
     R: Net<Listener = TcpListener, Stream = TcpStream> + Threads + Wait + time::Clock + Sync,
     E: Write + Drop + Send,
@@ -374,7 +376,7 @@ fn first_line(alloc: Global, listener: &TcpListener) -> Result<String, Unbegun>
     }
 }
 
-/// The last line, and the exit status; `None` after an allocation failure.
+/// The last line for an outcome, and the exit status, 0 or 1; `None` after an allocation failure.
 fn last_line(alloc: Global, outcome: Result<(u64, Settled), Failure>) -> Option<(String, u8)>
     ensures { (settings : Settings) → IfOk outcome (λ told. IsCounted settings told.0 told.1)
         → IfSome result (λ told. IsLast settings told.1 (string_bytes told.0)) }
@@ -385,21 +387,23 @@ fn last_line(alloc: Global, outcome: Result<(u64, Settled), Failure>) -> Option<
     }
 }
 
-/// Tells an operator that the first line can't be written to standard output.
+/// Tells an operator that the first line can't be written to standard output. That this can't be written either isn't reported.
 fn tell_unwritten<E: Write + Drop>(mut errors: E) {
     let line = "kbroker: standard output: where the server listens can't be written\n";
     let _ = write_whole(&mut errors, line.as_bytes());
 }
 
-/// Prints where it listens, serves connections until so many were served or no more are taken, settles the books and prints how
-/// that went. Gives the exit status. Where the listener can't tell its address, or memory is refused before anything is printed,
-/// it prints that and serves nothing; where the first line can't be written, it says so to `errors`.
+/// Prints `listening on ADDRESS`, serves connections until as many were served as are served in all or no more are taken, settles
+/// the books and prints how that went. Gives the exit status: 0 where all was served and settled, else 1. Where the listener
+/// can't tell its address, or an allocation fails for the first line, it prints that and serves nothing; where the first line
+/// can't be written, it says so to `errors` and serves nothing. An allocation that fails for the last line leaves it out.
 ///
-/// `errors` gets the log for an operator: why a session ended, where it didn't end between two requests; that the clock stops,
-/// where the core takes no more of its steps; what becomes of connections that aren't served; at last how many requests there
-/// were; and the line of each refusal, where that is asked for. A thread of its own writes to `errors`, and nobody else waits for
-/// it: 1,024 messages are queued at most, and further ones are dropped and counted. The last line alone comes after the log is
-/// written, or can't be.
+/// `errors` gets the log for an operator: first what is served, and a warning where clients are told another port; why a session
+/// ended, where it didn't end between two requests; that the clock stops, where the core takes no more of its steps; what becomes
+/// of connections that wait or aren't served; at last how many requests, ticks and marks were answered; and the line of each
+/// refusal, where `audit` is set and no lines stand in the clock's place. A thread of its own writes
+/// to `errors`, and nobody else waits for it: 1,024 messages are queued at most, and further ones are dropped and counted. The
+/// last line alone comes after the log is written, or can't be.
 ///
 /// Where lines steer the server, connections are taken until the lines end or have it end, or all is served. Where they do so
 /// without a clock, a tick or a marker step comes only by a line.

@@ -1,4 +1,4 @@
-//! The cluster: the one node, and what clients are told of it.
+//! The cluster: its one node, and the lists that Metadata answers about it.
 
 ghost use Rattle.std.specs.Prelude.{◌≡◌, [], IfOk};
 ghost use Rattle.broker_world.specs.Brokers.{broker_info, brokers_of};
@@ -9,7 +9,7 @@ use std::alloc::{AllocError, Global};
 use std::marker::Model;
 use wire_types::Items;
 
-/// The one node, with the lists that a Metadata tells of it: they are made once, and all replies share them. Seen as the node.
+/// The one node, with the lists that Metadata answers about it: they are made once, and all replies share them.
 pub struct Cluster {
     node: Node,
     brokers: SharedItems<BrokerInfo>,

@@ -1,4 +1,4 @@
-//! The codes of answers.
+//! The error codes of answers.
 
 ghost use Rattle.std.specs.Prelude.{◌≡◌};
 ghost use Rattle.broker_world.specs.Codes.{code_in, code_unless_none};
@@ -15,7 +15,7 @@ pub fn code_in(answer: Result<(), ErrorCode>) -> ErrorCode
     }
 }
 
-/// The error code if it is one, `None` for NONE.
+/// The error code of a refusal, `None` for NONE.
 pub fn refused_by(code: ErrorCode) -> Option<ErrorCode>
     ensures { result ≡ code_unless_none code }
 {

@@ -1,4 +1,4 @@
-//! What is told of a topic's partitions.
+//! A topic's partitions as Metadata lists them.
 
 ghost use Rattle.std.specs.Prelude.{◌≡◌, ◌<◌, ◌^◌, [], ◌∷◌, IfOk};
 ghost use Rattle.broker_world.specs.Partitions.{partition_info, partitions_from};
@@ -7,7 +7,8 @@ use msg_data::{PartitionInfo, SharedItems};
 use std::alloc::{AllocError, Global};
 use wire_types::{ErrorCode, Items};
 
-/// The partition of this index as Metadata lists it: the one node is its leader and its only replica, in sync.
+/// The partition of this index as Metadata lists it: the node with the id `node` is its leader and its only replica, in sync.
+/// `nodes` is the list of that node alone, which the lists of replicas share.
 fn partition_info(
     node: i32,
     nodes: &SharedItems<i32>,
@@ -26,7 +27,7 @@ fn partition_info(
     })
 }
 
-/// The partitions 0 to `count` - 1 of a topic as Metadata lists them, which this node leads and keeps.
+/// The partitions 0 to `count` - 1 of a topic as Metadata lists them, led and kept by the node with the id `node`.
 pub(crate) fn led_by(
     alloc: Global,
     node: i32,

@@ -8,7 +8,8 @@ use std::marker::Model;
 /// The last moment, in milliseconds: 2^62 - 1.
 const LAST_MOMENT: u64 = 4_611_686_018_427_387_903;
 
-/// The moment that the last tick told, in milliseconds. It begins at 0, never goes back, and stays at the last moment.
+/// The moment that the broker's clock shows, in milliseconds. It begins at 0, only ticks move it on, it never goes back, and it
+/// stops at 2^62 - 1.
 #[derive(Drop)]
 pub struct Moment {
     milliseconds: u64,
@@ -41,8 +42,8 @@ impl Moment {
         self.milliseconds
     }
 
-    /// Moves on to the time that a tick told, in milliseconds. An earlier time changes nothing, and a later one than 2^62 -
-    /// 1 counts as that.
+    /// Moves on to the time `told` of a tick, in milliseconds. An earlier time changes nothing, and a later one than 2^62 - 1
+    /// counts as that.
     pub fn go_on(&mut self, told: u64)
         ensures { self.new ≡ moment_after self.old told }
     {

@@ -1,4 +1,4 @@
-//! The one node, as clients see it, and the limits that it keeps.
+//! The cluster's one node, as clients see it, and the limits that it keeps.
 
 ghost use Rattle.std.specs.Prelude.{◌≡◌, true, IfOk};
 ghost use Rattle.settings.specs.Fault.{is_within, are_numbers_within};
@@ -8,19 +8,19 @@ use settings::Settings;
 use std::alloc::{AllocError, Global};
 use wire_types::Text;
 
-/// The node's address, and the limits of batches and transactions.
+/// The node's id and address, and the limits of batches and transactions.
 #[derive(Clone, Debug, Drop)]
 pub struct Node {
     pub node_id: i32,
     pub host: Text,
     pub port: i32,
-    /// In bytes.
+    /// The greatest size of a batch that Produce appends, in bytes.
     pub max_batch: i32,
-    /// In milliseconds.
+    /// The greatest transaction timeout that InitProducerId may ask for, in milliseconds.
     pub max_txn_timeout: i32,
 }
 
-/// A number of checked settings, 0 to 2^31 - 1, in 32 bits.
+/// A number that stands in checked settings, which is 0 to 2^31 - 1, as an `i32`.
 fn narrow(number: i64) -> i32
     requires { is_within 0 2147483647 number ≡ true }
     ensures { result ≡ number }

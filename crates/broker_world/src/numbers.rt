@@ -3,7 +3,7 @@
 ghost use Rattle.std.specs.Prelude.{◌≡◌};
 ghost use Rattle.broker_world.specs.First.{non_negative};
 
-/// The number, or 0 where it is negative.
+/// The number, or 0 if it is negative.
 pub fn non_negative(number: i32) -> u32
     ensures { result ≡ non_negative number }
 {

@@ -1,4 +1,4 @@
-//! What several apis ask.
+//! Questions to the policy that several apis ask.
 
 ghost use Rattle.std.specs.Prelude.{◌≡◌, IfOk};
 ghost use Rattle.acl_binding.specs.Creatable.{cluster_name};

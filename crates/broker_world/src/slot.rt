@@ -1,4 +1,4 @@
-//! A topic as it is kept.
+//! A topic with its logs.
 
 use crate::logs::Logs;
 use wire_types::Text;

@@ -1,4 +1,4 @@
-//! What the broker keeps between two events.
+//! What the broker keeps between two events, beside the audit trail.
 
 ghost use Rattle.std.specs.Prelude.{◌≡◌, ◌≤◌, length, true, IfOk, None};
 ghost use Rattle.std.specs.List.{list_all};
@@ -23,7 +23,7 @@ use std::marker::Model;
 use txn_coordinator::Coordinator;
 use wire_types::{Items, Text};
 
-/// The broker's world.
+/// The broker's world: the cluster, the policy, the topics with their logs, transactions, groups and the clock.
 pub struct State {
     pub cluster: Cluster,
     pub policy: Policy,
@@ -31,6 +31,7 @@ pub struct State {
     pub coordinator: Coordinator,
     pub groups: Groups,
     pub moment: Moment,
+    /// How many events the broker has answered. JoinGroup makes the ids of new members of it.
     pub events: u64,
 }
 

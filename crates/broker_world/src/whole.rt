@@ -1,4 +1,5 @@
-//! Requests that are one part: they are served whole or refused whole. Requests that ask for their parts alone.
+//! The results of requests that are one part, and so are served or refused whole, and of requests whose parts alone ask
+//! permission.
 
 ghost use Rattle.std.specs.Prelude.{◌≡◌, ◌∷◌, [], IfOk};
 
@@ -8,7 +9,7 @@ use msg_admin::Reply;
 use std::alloc::{AllocError, Global};
 use wire_types::Items;
 
-/// The outcome of an event that is one part and was served, with the permits that were spent for it.
+/// The result of an event that is one part and was served, with the permits that were spent for it.
 pub fn served_whole(alloc: Global, reply: Reply, paid: Paid) -> HandlerResult
     ensures { result ≡ record { reply = reply; refusals = []; paid = paid; spent = 0 } }
 {
@@ -20,8 +21,8 @@ pub fn served_whole(alloc: Global, reply: Reply, paid: Paid) -> HandlerResult
     }
 }
 
-/// The outcome of a request whose parts alone ask permission: the refusals of those that were refused, and how many permits
-/// were spent for the others.
+/// The result of a request whose parts alone ask permission: the refusals of the refused parts, and how many permits were spent
+/// for the others.
 pub fn served_in_parts(reply: Reply, refusals: Items<Refusal>, spent: Tally) -> HandlerResult
     ensures { result ≡ record { reply = reply; refusals = refusals; paid = []; spent = spent } }
 {
@@ -33,7 +34,7 @@ pub fn served_in_parts(reply: Reply, refusals: Items<Refusal>, spent: Tally) -> 
     }
 }
 
-/// The outcome of a request that is one part and was refused. An `AllocError` is an allocation failure.
+/// The result of a request that is one part and was refused: no permit is spent. An `AllocError` is an allocation failure.
 pub fn refused_whole(
     alloc: Global,
     reply: Reply,

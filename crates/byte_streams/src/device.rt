@@ -10,7 +10,7 @@ use std::io;
 use std::io::{ErrorKind, Read, Write};
 use thiserror::Error;
 
-/// The greatest number of bytes that an input may have.
+/// The greatest number of bytes that an input may have: 1 GiB.
 pub const INPUT_LIMIT: usize = 1_073_741_824;
 
 /// How often in a row a call that was interrupted is made again.
@@ -28,7 +28,7 @@ pub enum InputFault {
     /// The input goes on after the limit.
     #[error("the input has more than 1,073,741,824 bytes")]
     TooLong,
-    /// Memory was refused.
+    /// There was an allocation failure.
     #[error("there is not enough memory")]
     NoMemory,
 }
@@ -53,8 +53,8 @@ impl From<io::Error> for InputFault {
     }
 }
 
-/// Reads once into `piece` and gives how many bytes came, where 0 is the end of the input. A read that fails with
-/// `Interrupted` is made again, up to 1,000 times; every other error is given as it is.
+/// Reads once into `piece` and returns how many bytes came, where 0 is the end of the input. A read that fails with `Interrupted`
+/// is made again, up to 1,000 times; every other error is returned as it is.
 fn read_some<R: Read>(reader: &mut R, piece: &mut [u8]) -> io::Result<usize>
     ensures bound { ReadsAtMost result piece.new }
     ensures bytes { ReadConsumes (R.remaining reader.old) (R.remaining reader.new) result
@@ -73,8 +73,8 @@ fn read_some<R: Read>(reader: &mut R, piece: &mut [u8]) -> io::Result<usize>
     reader.read(piece)
 }
 
-/// Reads the whole input. Gives `TooLong` as soon as it has more than `INPUT_LIMIT` bytes, `Read` where a read fails, and
-/// `NoMemory` on an allocation failure.
+/// Reads the whole input, to its end. `TooLong` as soon as it has more than `INPUT_LIMIT` bytes, `Read` where a read fails, and
+/// `NoMemory` on an allocation failure; what was read by then is lost.
 #[tactic(auto, using(crate::proofs::Taken::taken_more, crate::proofs::Taken::taken_kept))]
 pub fn read_input<R: Read>(alloc: Global, reader: &mut R) -> Result<Vec<u8>, InputFault>
     ensures whole { IfOk result
@@ -98,8 +98,8 @@ pub fn read_input<R: Read>(alloc: Global, reader: &mut R) -> Result<Vec<u8>, Inp
     }
 }
 
-/// Writes once and gives how many bytes were written from the front. A write that fails with `Interrupted` is made again, up
-/// to 1,000 times; every other error is given as it is.
+/// Writes once and returns how many bytes were written from the front. A write that fails with `Interrupted` is made again, up to
+/// 1,000 times; every other error is returned as it is.
 fn write_some<W: Write>(writer: &mut W, bytes: &[u8]) -> io::Result<usize>
     ensures bound { WritesAtMost result bytes.now }
     ensures bytes { WriteAppends (W.contents writer.old) (W.contents writer.new) result bytes.now }
@@ -117,8 +117,8 @@ fn write_some<W: Write>(writer: &mut W, bytes: &[u8]) -> io::Result<usize>
     writer.write(bytes)
 }
 
-/// Writes all the bytes. On an error some of them stand written, from the front. Gives `WriteZero` where the writer takes no
-/// bytes.
+/// Writes all the bytes, but doesn't flush. An error is the writer's, or `WriteZero` where the writer takes no bytes; the first
+/// part of the bytes may be written by then.
 pub fn write_whole<W: Write>(writer: &mut W, bytes: &[u8]) -> io::Result<()>
     ensures { Wrote (W.contents writer.old) (W.contents writer.new) bytes.now result }
 {

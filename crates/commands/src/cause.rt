@@ -15,22 +15,22 @@ pub(crate) enum Cause {
     Stop(Stop),
 }
 
-/// Why a run ends before its answer is written.
+/// Why a run ends before its input is answered to the end.
 #[derive(Clone, Copy, Debug, PartialEq, Eq, Error)]
 pub(crate) enum Early {
     /// A read failed.
     #[error("the input can't be read")]
     Read,
-    /// The input goes on after the limit.
+    /// The input has more than 1,073,741,824 bytes.
     #[error("the input has more than 1,073,741,824 bytes")]
     TooLong,
     /// A write failed.
     #[error("the answer can't be written")]
     Write,
-    /// Memory was refused where the settings were read.
+    /// An allocation failed where the input or the settings were read, or the core was opened.
     #[error("there is not enough memory for the settings")]
     Settings,
-    /// Memory was refused at a line of the script.
+    /// An allocation failed at a line of the script.
     #[error("there is not enough memory for the next line of the script")]
     Script,
 }

@@ -1,10 +1,10 @@
 //! The program's commands.
 
-/// What is made of an input.
+/// Which command is run on an input, and what the input holds.
 #[derive(Clone, Copy, Debug, PartialEq, Eq)]
 pub(crate) enum Command {
-    /// Settings and a script, which is answered.
+    /// `replay`: settings and a script, which is answered.
     Replay,
-    /// Settings, which are looked at.
+    /// `check`: settings, which are checked.
     Check,
 }

@@ -3,7 +3,7 @@
 
 use crate::lines::{content, split_line};
 
-/// How many lines an input has before its script.
+/// How many lines an input has before `script`, which is its end.
 pub(crate) fn lines_before(input: &[u8], script: &[u8]) -> u64 {
     let front = input.len().saturating_sub(script.len());
     match input.get(..front) {
@@ -20,7 +20,8 @@ pub(crate) fn has_return(line: &[u8]) -> bool {
     }
 }
 
-/// A hint where a settings text holds a line `---`, which only parts settings from a script; `None` where it holds none.
+/// A hint where a text of settings holds a line `---`, which belongs only between settings and a script, or such a line with a
+/// carriage return, which separates nothing; `None` where it holds neither.
 pub(crate) fn separator_hint(text: &[u8]) -> Option<&'static str> {
     let mut rest = text;
     while !rest.is_empty() {

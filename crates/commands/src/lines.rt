@@ -7,14 +7,14 @@ ghost use Rattle.commands.specs.Lines.{lines_of, is_line_feed, settings_part, sc
 
 const LINE_FEED: u8 = b'\n';
 
-/// The place of the first line feed; `None` without one.
+/// The place of the first line feed, counted from 0; `None` without one.
 fn find_feed(text: &[u8]) -> Option<usize>
     ensures { result ≡ position is_line_feed text.now }
 {
     text.iter().position(|byte| *byte == LINE_FEED)
 }
 
-/// The first line, with its line feed, and what follows it.
+/// The first line of a text that isn't empty, with its line feed, and what follows it.
 pub fn split_line(text: &[u8]) -> (&[u8], &[u8])
     requires { 0 < length text.now }
     ensures lines { lines_of text.now ≡ result.0.now ∷ lines_of result.1.now }
@@ -37,8 +37,8 @@ pub fn content(line: &[u8]) -> &[u8]
     }
 }
 
-/// Parts an input: the settings' text, which ends before the first line `---`, and the script after that line. Without such a
-/// line all of it is settings.
+/// Splits an input: the text of the settings, which ends before the first line `---`, and the script after that line. Without
+/// such a line all of it is settings, and the script is empty.
 pub fn split_input(input: &[u8]) -> (&[u8], &[u8])
     ensures settings { result.0.now ≡ settings_part (lines_of input.now) }
     ensures script { lines_of result.1.now ≡ script_part (lines_of input.now) }

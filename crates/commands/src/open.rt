@@ -26,12 +26,12 @@ pub struct Opened {
     pub bindings: usize,
 }
 
-/// Why there is no core.
+/// Why no core is opened.
 #[derive(Clone, Copy, Debug, PartialEq, Eq)]
 pub(crate) enum Unopened {
-    /// The settings are refused, which is printed; and the exit status.
+    /// The settings are refused, and that is printed; holds the exit status.
     Refused(u8),
-    /// Something failed before that was printed.
+    /// A read, a write or an allocation failed, or the input is too long. A refusal of the settings isn't printed whole.
     Early(Early),
 }
 
@@ -41,13 +41,14 @@ impl From<Early> for Unopened {
 
     ghost from_gives = { λ early unopened. unopened ≡ EarlyOne early };
 
-    /// Something failed before anything was printed.
+    /// What failed is kept as it is.
     fn from(early: Early) -> Unopened {
         Unopened::Early(early)
     }
 }
 
-/// Prints a sentence for each thing that a server's settings are unlikely to mean. If that fails, nothing else does.
+/// Prints to `errors` warnings of settings that are allowed but probably a mistake: one for each kind of mistake (see
+/// `settings_text::warnings`). That an allocation or a write fails isn't reported.
 pub(crate) fn warn<E: Write>(alloc: Global, document: &Document, errors: &mut E) {
     if let Ok(sentences) = warnings(alloc, document) {
         for sentence in sentences.as_slice() {
@@ -59,7 +60,9 @@ pub(crate) fn warn<E: Write>(alloc: Global, document: &Document, errors: &mut E)
     }
 }
 
-/// Reads settings and opens a core with them, whose tables hash by `hasher`. Where they are refused, it prints so and says why.
+/// Reads settings, prints warnings about them, and opens a core with them, whose tables hash by `hasher`. Where they are refused,
+/// it prints `settings refused: FAULT` to `writer`, and why to `errors`. `Early` is an allocation failure, or a failed write of
+/// that line.
 #[tactic(auto, using(crate::proofs::OpenLemmas::is_of))]
 fn open_settings<W: Write, E: Write>(
     alloc: Global,
@@ -97,8 +100,7 @@ fn open_settings<W: Write, E: Write>(
     }
 }
 
-/// Reads settings up to the end of the input and opens a core with them, whose tables hash by `hasher`. The error says that the
-/// settings are refused, which is printed, or what failed before that.
+/// As `open_settings`, of all that the reader gives. `Early` is then also a failed read, or an input that is too long.
 fn open_whole<R: Read, W: Write, E: Write>(
     alloc: Global,
     hasher: RandomState,
@@ -121,8 +123,9 @@ fn open_whole<R: Read, W: Write, E: Write>(
     }
 }
 
-/// Reads settings up to the end of the input and opens a core with them, whose tables hash by `hasher`. Where there is none, it
-/// prints what `check` prints of the settings, says in sentences to `errors` what went wrong, and gives the exit status.
+/// Reads settings up to the end of the input and opens a core with them, whose tables hash by `hasher`; warnings go to `errors`.
+/// Where no core is opened, it prints to `writer` what `check` prints of the settings, says in sentences to `errors` what went
+/// wrong, and gives the exit status 1.
 pub fn open_and_explain<R: Read, W: Write, E: Write>(
     alloc: Global,
     hasher: RandomState,

@@ -16,7 +16,7 @@ use wire_types::{Bytes, Cursor, Text};
 /// The bytes of a frame's size field.
 const SIZE_FIELD: usize = 4;
 
-/// A frame without its size field, and who sends it.
+/// A frame without its size field, and the principal and host that send it.
 #[derive(Debug, Drop)]
 pub struct Sent {
     pub caller: Caller,
@@ -26,9 +26,9 @@ pub struct Sent {
 /// What a line of a script asks for.
 #[derive(Debug, Drop)]
 pub enum Order {
-    /// A frame is to be answered.
+    /// The frame is to be answered.
     Ask(Sent),
-    /// The front of the markers that are pending is to be written.
+    /// The first pending marker is to be written.
     Mark,
     /// The clock shows a moment, in milliseconds.
     Tick(u64),
@@ -62,7 +62,7 @@ struct Words<'a> {
     digits: &'a str,
 }
 
-/// The bytes after the size field; `None` where that doesn't say how many they are.
+/// The bytes after the size field; `None` where that isn't whole, or isn't the number of bytes after it.
 #[tactic(auto, unfolding(wire_types::specs::Reading::nat_at))]
 fn after_size(frame: &Bytes) -> Result<Option<Bytes>, AllocError>
     ensures { IfOk result (λ text. text ≡ bytes_after_size (nat_at w32 frame.now)) }
@@ -79,8 +79,8 @@ fn after_size(frame: &Bytes) -> Result<Option<Bytes>, AllocError>
     Ok(Some(frame.slice(SIZE_FIELD..frame.len())?))
 }
 
-/// The frame that hexadecimal digits spell, without its size field. It is `Digits` where they spell no bytes, `Size` where the
-/// size field is wrong. The outer error is an allocation failure.
+/// The frame that hexadecimal digits spell, without its size field. The inner error is `Digits` where they spell no bytes, `Size`
+/// where the size field is wrong; the outer one is an allocation failure.
 fn parse_frame(alloc: Global, digits: &str) -> Result<Result<Bytes, Unreadable>, AllocError>
     ensures { IfOk result (λ read. result_ok read ≡ frame_of digits.now) }
 {
@@ -95,7 +95,8 @@ fn parse_frame(alloc: Global, digits: &str) -> Result<Result<Bytes, Unreadable>,
     }
 }
 
-/// The words of `USER HOST HEX`; `None` where one is missing, or the user or the host is empty.
+/// The words of `USER HOST HEX`; `None` where one is missing, or the user or the host is empty. HEX is all that follows the
+/// second blank.
 fn split_words(text: &str) -> Option<Words<'_>>
     ensures { option_map (λ w. (w.user.now, w.host.now, w.digits.now)) result ≡ words_of text.now }
 {
@@ -183,7 +184,7 @@ fn text_of(bytes: &[u8]) -> Option<&str>
     }
 }
 
-/// Reads a line of a script, given without its line feed, and tells what it asks for. The inner error says why it can't be read;
+/// Reads a line of a script, given without its line feed, and gives what it asks for. The inner error says why it can't be read;
 /// the outer one is an allocation failure.
 pub fn parse_order(alloc: Global, line: &[u8]) -> Result<Result<Order, Unreadable>, AllocError>
     ensures { IfOk result (λ read. result_ok read ≡ order_of line.now) }

@@ -24,11 +24,11 @@ use std::alloc::Global;
 use std::fmt::Display;
 use std::io::{Read, Write, sink};
 
-/// Where an input has settings alone.
+/// What is said where an input has settings alone.
 const NO_SCRIPT: &str =
     "there is no line `---` after the settings, so there is no script to answer";
 
-/// Writes a whole text. Where a write fails, some of it stands written, from the front.
+/// Writes a whole text. The error is `Write`, and after it some of the text may be written, from the front.
 fn write_text<W: Write>(writer: &mut W, text: &str) -> Result<(), Early>
     ensures wrote { Wrote (W.contents writer.old) (W.contents writer.new) text.now result }
     ensures cause { IfErr result (λ early. early ≡ EarlyWrite) }
@@ -39,15 +39,15 @@ fn write_text<W: Write>(writer: &mut W, text: &str) -> Result<(), Early>
     }
 }
 
-/// What a sentence speaks of.
+/// What a sentence speaks of: the settings, a line, or the run as a whole.
 pub(crate) enum Place {
     Settings,
-    /// The line of this number of the whole input.
+    /// The line of this number of the whole input, counted from 1.
     Line(u64),
     Run,
 }
 
-/// Prints a sentence to `errors`: what went wrong, and where. If that fails, nothing else does.
+/// Prints a sentence to `errors`: what went wrong, and where. That an allocation or a write fails isn't reported.
 pub(crate) fn explain<E: Write, D: Display + Drop>(
     alloc: Global,
     errors: &mut E,
@@ -66,8 +66,7 @@ pub(crate) fn explain<E: Write, D: Display + Drop>(
     }
 }
 
-/// Prints why the line of this number ends its script, and whether it ends with a carriage return. If that fails, nothing else
-/// does.
+/// Prints why the line of this number ends its script, and whether it ends with a carriage return. A failure isn't reported.
 fn explain_line<E: Write>(alloc: Global, errors: &mut E, number: u64, line: &[u8], cause: Cause) {
     explain(alloc, errors, Place::Line(number), cause);
     if has_return(line) {
@@ -76,7 +75,7 @@ fn explain_line<E: Write>(alloc: Global, errors: &mut E, number: u64, line: &[u8
     }
 }
 
-/// Prints what it means that the line of this number is answered `closed`, if it is. If that fails, nothing else does.
+/// Where the line of this number was answered `closed` (`text` is its answer), prints what that means. A failure isn't reported.
 fn explain_closed<E: Write>(alloc: Global, errors: &mut E, number: u64, text: &String) {
     if is_closed(text) {
         let sentence = "here the broker would close the connection; `kbroker show` tells why";
@@ -84,8 +83,9 @@ fn explain_closed<E: Write>(alloc: Global, errors: &mut E, number: u64, text: &S
     }
 }
 
-/// Answers a script line by line, and prints each answer, until a line ends it. `before` lines stand before it in its input.
-/// Gives the exit status: 0 where each line was answered, else 1.
+/// Answers a script line by line, and prints each answer, until a line ends the script. `before` lines stand before it in its
+/// input. Gives the exit status: 0 where each line was answered, else 1. The error is `Write`, or `Script` after an allocation
+/// failure.
 fn run_script<W: Write, E: Write>(
     alloc: Global,
     mut core: Core,
@@ -124,7 +124,8 @@ fn run_script<W: Write, E: Write>(
     Ok(0)
 }
 
-/// Prints `settings refused: FAULT`, says why, and gives the exit status 1.
+/// Prints `settings refused: FAULT` to `writer`, says why to `errors`, and gives the exit status 1. The error is `Write`, or
+/// `Settings` after an allocation failure.
 pub(crate) fn refuse<W: Write, E: Write>(
     alloc: Global,
     text: &[u8],
@@ -148,7 +149,8 @@ pub(crate) fn refuse<W: Write, E: Write>(
     Ok(1)
 }
 
-/// Replays a whole input: opens a broker with its settings, and answers its script. Gives the exit status.
+/// Replays a whole input: opens a broker with its settings, and answers its script. Gives the exit status, 1 also where the
+/// settings are refused. Without a line `---` it says so to `errors`, and answers nothing.
 fn answer_input<W: Write, E: Write>(
     alloc: Global,
     input: &[u8],
@@ -176,7 +178,7 @@ fn answer_input<W: Write, E: Write>(
     }
 }
 
-/// Prints `settings ok`, and warnings, or that the settings are refused, and why. Gives the exit status.
+/// Prints `settings ok`, and warnings to `errors`; or that the settings are refused, and why. Gives the exit status, 0 or 1.
 fn check_settings<W: Write, E: Write>(
     alloc: Global,
     input: &[u8],
@@ -246,14 +248,15 @@ fn last_words(early: Early) -> &'static str
     }
 }
 
-/// Prints the last line of a run that ends early, if it has one. If that fails, nothing else does.
+/// Prints the last line of a run that ends early, if it has one. That the write fails isn't reported.
 pub(crate) fn end_early<W: Write>(writer: &mut W, early: Early)
     ensures { EndsEarly (W.contents writer.old) (W.contents writer.new) early }
 {
     let _ = write_text(writer, last_words(early));
 }
 
-/// Runs a command on all that the reader gives, says in sentences to `errors` what went wrong, and gives the exit status.
+/// Runs a command on all that the reader gives, says in sentences to `errors` what went wrong, and gives the exit status, which
+/// is 1 where the run ends early.
 fn run_and_explain<R: Read, W: Write, E: Write>(
     alloc: Global,
     command: Command,
@@ -276,7 +279,7 @@ fn run_and_explain<R: Read, W: Write, E: Write>(
     }
 }
 
-/// The command `replay`, as `replay` runs it, which also says in sentences to `errors` what went wrong. Gives the exit status.
+/// As `replay`, but also says in sentences to `errors` what went wrong.
 pub fn replay_and_explain<R: Read, W: Write, E: Write>(
     alloc: Global,
     reader: &mut R,
@@ -291,8 +294,8 @@ pub fn replay_and_explain<R: Read, W: Write, E: Write>(
     run_and_explain(alloc, Command::Replay, reader, writer, errors)
 }
 
-/// The command `replay`: reads settings up to a line `---` or the end of the input, then a script; answers each of
-/// its lines, and gives the exit status.
+/// The command `replay`: reads the whole input, opens a broker with the settings up to a line `---`, and answers the lines of the
+/// script after that, until one ends it. Gives the exit status: 0 where each line was answered, else 1.
 pub fn replay<R: Read, W: Write>(alloc: Global, reader: &mut R, writer: &mut W) -> u8
     ensures prints { IfSome (R.remaining reader.old)
         (λ input. Replayed (W.contents writer.old) (W.contents writer.new) (replay_answer input)
@@ -302,7 +305,7 @@ pub fn replay<R: Read, W: Write>(alloc: Global, reader: &mut R, writer: &mut W) 
     replay_and_explain(alloc, reader, writer, &mut sink())
 }
 
-/// The command `check`, as `check` runs it, which also says in sentences to `errors` what went wrong. Gives the exit status.
+/// As `check`, but also says in sentences to `errors` what went wrong.
 pub fn check_and_explain<R: Read, W: Write, E: Write>(
     alloc: Global,
     reader: &mut R,
@@ -317,8 +320,8 @@ pub fn check_and_explain<R: Read, W: Write, E: Write>(
     run_and_explain(alloc, Command::Check, reader, writer, errors)
 }
 
-/// The command `check`: reads settings up to the end of the input, prints `settings ok` or what is wrong with them
-/// first, and gives the exit status.
+/// The command `check`: reads settings up to the end of the input, prints `settings ok`, or `settings refused: FAULT` with their
+/// first fault, and gives the exit status, 0 or 1.
 pub fn check<R: Read, W: Write>(alloc: Global, reader: &mut R, writer: &mut W) -> u8
     ensures prints { IfSome (R.remaining reader.old)
         (λ input. Replayed (W.contents writer.old) (W.contents writer.new) (check_answer input)

@@ -39,7 +39,7 @@ fn refusals_at(core: &Core, place: u64) -> &[Refusal]
     }
 }
 
-/// What is printed for an event that was answered: its response, and a line for each of its parts that was refused.
+/// What is printed for an event that was answered: its response, and an audit line for each of its parts that was refused.
 fn receipt_text(
     alloc: Global,
     core: &Core,
@@ -55,8 +55,8 @@ fn receipt_text(
     Ok(text)
 }
 
-/// Hands an event to the core, and tells what is printed: what it is answered, or the stop that ends the script. The error is an
-/// allocation failure.
+/// Hands an event to the core, and gives what is printed: the answer, or the stop that ends the script. The error is an
+/// allocation failure, the core's too.
 fn step(alloc: Global, core: &mut Core, correlation: i32, event: Event) -> Result<Turn, AllocError>
     requires up { core.old.down ≡ false }
     requires fits { EventFits event }
@@ -71,7 +71,7 @@ fn step(alloc: Global, core: &mut Core, correlation: i32, event: Event) -> Resul
     }
 }
 
-/// Hands a request to the core, as asked by this caller, and tells what is printed.
+/// Hands a request of this caller to the core, and gives what is printed. The error is an allocation failure.
 fn ask(
     alloc: Global,
     core: &mut Core,
@@ -92,7 +92,8 @@ fn ask(
     step(alloc, core, correlation, event)
 }
 
-/// Answers a frame that isn't too long, and tells what is printed: `closed` where it is no request that is served.
+/// Answers a frame that isn't too long, and gives what is printed: `closed` where it is no request that is served. The error is
+/// an allocation failure.
 fn request_turn(alloc: Global, core: &mut Core, sent: Sent) -> Result<Turn, AllocError>
     requires up { core.old.down ≡ false }
     requires fits { length sent.frame ≤ FRAME_LIMIT }
@@ -110,7 +111,7 @@ fn request_turn(alloc: Global, core: &mut Core, sent: Sent) -> Result<Turn, Allo
     }
 }
 
-/// Answers a frame, and tells what is printed: `closed` where it is longer than a frame may be.
+/// As `request_turn`, but also `closed` where the frame is longer than a frame may be, 104,857,600 bytes.
 fn frame_turn(alloc: Global, core: &mut Core, sent: Sent) -> Result<Turn, AllocError>
     requires up { core.old.down ≡ false }
     ensures { IfOk result
@@ -123,7 +124,8 @@ fn frame_turn(alloc: Global, core: &mut Core, sent: Sent) -> Result<Turn, AllocE
     request_turn(alloc, core, sent)
 }
 
-/// Hands the core an event that no client asked for, a tick or a mark. Its reply isn't sent, so `-` is printed, and its refusals.
+/// Hands the core an event that no client asked for, a tick or a mark. Its reply isn't sent, so `-` is printed, and its refusals,
+/// if it has any.
 fn unasked_turn(alloc: Global, core: &mut Core, event: Event) -> Result<Turn, AllocError>
     requires up { core.old.down ≡ false }
     requires fits { EventFits event }
@@ -134,7 +136,7 @@ fn unasked_turn(alloc: Global, core: &mut Core, event: Event) -> Result<Turn, Al
     step(alloc, core, 0, event)
 }
 
-/// Does what a line asks for, and tells what is printed.
+/// Does what a line asks for, and gives what is printed. The error is an allocation failure.
 fn order_turn(alloc: Global, core: &mut Core, order: Order) -> Result<Turn, AllocError>
     requires up { core.old.down ≡ false }
     ensures { IfOk result
@@ -148,7 +150,8 @@ fn order_turn(alloc: Global, core: &mut Core, order: Order) -> Result<Turn, Allo
     }
 }
 
-/// Reads the line of this number, does what it asks for, and tells what is printed. A line that can't be read ends the script.
+/// Reads the line of this number, counted from 1, does what it asks for, and gives what is printed. A line that can't be read
+/// ends the script. The error is an allocation failure.
 pub(crate) fn line_turn(
     alloc: Global,
     core: &mut Core,

@@ -1,4 +1,4 @@
-//! Fetch: batches are read from an offset on.
+//! Fetch: reads batches of partitions from an offset on.
 
 ghost use Rattle.std.specs.Prelude.{◌≡◌, [], IfOk};
 ghost use Rattle.std.specs.Option.{option_copied};
@@ -38,8 +38,8 @@ impl<'a> PartApi<FetchPartition, FetchedRecords, FetchBudget> for FetchHandler<'
 
     ghost settles = { λ _ _. Unit {0} };
 
-    /// Asks whether the caller may READ the topic. If so, it serves the partition out of the budget, else it answers the
-    /// refusal's code.
+    /// Asks whether the caller may READ the topic. If so, serves the partition and takes its bytes from the budget, else
+    /// answers the refusal's code.
     fn serve(
         &self,
         alloc: Global,
@@ -65,8 +65,8 @@ impl<'a> PartApi<FetchPartition, FetchedRecords, FetchBudget> for FetchHandler<'
     }
 }
 
-/// Serves a partition within the budget. The error code is UNKNOWN_TOPIC_OR_PARTITION or OFFSET_OUT_OF_RANGE; an
-/// `AllocError` is an allocation failure.
+/// Serves a partition from its offset on within the budget. If nothing was given yet, the first batch is served even if it
+/// exceeds the budget. Errors: UNKNOWN_TOPIC_OR_PARTITION or OFFSET_OUT_OF_RANGE; an `AllocError` is an allocation failure.
 fn serve(
     alloc: Global,
     topics: &Topics,
@@ -113,7 +113,7 @@ impl FetchBudget {
         u64::from(non_negative(part.max_bytes)).min(self.left)
     }
 
-    /// The budget after what was served of a partition: as it was, if that was an error.
+    /// The budget after a partition was served; an error leaves it as it was.
     fn after(&self, served: &Result<Served, ErrorCode>) -> FetchBudget
         ensures { result ≡ budget_after self.now served.now }
     {
@@ -123,7 +123,7 @@ impl FetchBudget {
         }
     }
 
-    /// The budget after these batches. A forced batch may have more bytes than were left: then none are left.
+    /// The budget after these batches were served. A forced batch may have more bytes than were left: then none are left.
     fn less(&self, batches: &[Batch]) -> FetchBudget
         ensures { result ≡ budget_after_batches self.now batches.now }
     {
@@ -152,7 +152,7 @@ fn fetched_error(alloc: Global, error: ErrorCode, part: &FetchPartition) -> Fetc
     }
 }
 
-/// A partition's answer: what was served of it, or its error code.
+/// A partition's answer: the batches that were served with the high watermark and last stable offset, or the error code.
 fn fetched(
     alloc: Global,
     part: &FetchPartition,
@@ -174,7 +174,7 @@ fn fetched(
     }
 }
 
-/// The list of aborted transactions that a partition's answer bears: null for read_uncommitted.
+/// The list of aborted transactions in a partition's answer: null for read_uncommitted.
 fn list_told(
     isolation: Isolation,
     aborted: Items<AbortedTransaction>,
@@ -198,8 +198,9 @@ fn joined(alloc: Global, batches: &[Batch]) -> Result<Pieces, AllocError>
     Ok(out)
 }
 
-/// Handles a Fetch: each partition whose topic the caller may READ is served, in the request's order and within its
-/// `max_bytes`; each other one is answered TOPIC_AUTHORIZATION_FAILED.
+/// Handles a Fetch: serves each partition whose topic the caller may READ, in the request's order and within the request's and
+/// its own `max_bytes`; only the first batch of an answer may exceed them. Any other partition is answered
+/// TOPIC_AUTHORIZATION_FAILED. It never waits for more data.
 pub fn answer_fetch(
     alloc: Global,
     state: &State,

@@ -1,4 +1,4 @@
-//! Metadata, Produce, Fetch and ListOffsets: what each does and is answered of what the bindings in force allow.
+//! Metadata, Produce, Fetch and ListOffsets: what each does, and what it answers, under the bindings in force.
 #![tactic(auto)]
 
 mod fetch;

@@ -1,4 +1,4 @@
-//! ListOffsets: where logs begin and end.
+//! ListOffsets: the offsets at which logs begin and end.
 
 ghost use Rattle.std.specs.Prelude.{◌≡◌, []};
 ghost use Rattle.std.specs.Option.{option_copied};
@@ -16,10 +16,10 @@ use std::alloc::{AllocError, Global};
 use walk::{Part, PartApi, refusal_code, walk};
 use wire_types::{ErrorCode, Text};
 
-/// The timestamp that wants the offset up to which a reader sees.
+/// The timestamp -1 asks for the end: the high watermark, or with read_committed the last stable offset.
 const END: i64 = -1;
 
-/// The timestamp that wants the first offset.
+/// The timestamp -2 asks for the first offset.
 const START: i64 = -2;
 
 /// How a ListOffsets answers a partition: for whom, at which isolation level, from which topics.
@@ -64,15 +64,16 @@ impl<'a> PartApi<WantedOffset, FoundOffset, ()> for ListOffsetsHandler<'a> {
     }
 }
 
-/// A partition's answer: its start or its end, or an error code.
+/// A partition's answer, as in `listed_by`.
 fn listed(topics: &Topics, isolation: Isolation, name: &Text, part: &WantedOffset) -> FoundOffset
     ensures { result ≡ listed_offset isolation topics.now name.now part.now }
 {
     listed_by(topics.log(name, part.index), isolation, part)
 }
 
-/// A partition's answer: for timestamp -1 the end that the reader may see, for -2 the start, and for any other
-/// INVALID_REQUEST. It is UNKNOWN_TOPIC_OR_PARTITION if there is no log, since there is no such topic or partition.
+/// A partition's answer: for timestamp -1 the end by the isolation level (high watermark or last stable offset), for -2 the
+/// start, which is 0, for any other INVALID_REQUEST. UNKNOWN_TOPIC_OR_PARTITION if `log` is `None`, since there is no such
+/// topic or partition.
 fn listed_by(log: Option<&Log>, isolation: Isolation, part: &WantedOffset) -> FoundOffset
     ensures { result ≡ listed_offset_by isolation part.now (option_copied log.entry) }
 {
@@ -108,8 +109,8 @@ fn listed_error(error: ErrorCode, part: &WantedOffset) -> FoundOffset
     }
 }
 
-/// Handles a ListOffsets: for each partition whose topic the caller may DESCRIBE the start or the end of its log; each other
-/// one is answered TOPIC_AUTHORIZATION_FAILED.
+/// Handles a ListOffsets: for each partition whose topic the caller may DESCRIBE, answers the start (timestamp -2) or the end
+/// (-1) of its log, UNKNOWN_TOPIC_OR_PARTITION or INVALID_REQUEST; for each other one TOPIC_AUTHORIZATION_FAILED.
 pub fn answer_list_offsets(
     alloc: Global,
     state: &State,

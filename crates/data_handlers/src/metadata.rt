@@ -27,7 +27,7 @@ pub(crate) struct Answered {
     pub(crate) spent: Tally,
 }
 
-/// The answers for the topics that are named, or, where no list is given (null), for all that the caller may DESCRIBE.
+/// The answers for the topics that are named, or, if no list is given (null), for all that the caller may DESCRIBE.
 fn wanted_topics(
     alloc: Global,
     state: &State,
@@ -69,8 +69,9 @@ fn metadata_reply(
     Ok(Reply::Metadata(Boxed::new(alloc, reply)?))
 }
 
-/// Handles a Metadata: the one broker, and the topics that are named, or all that the caller may DESCRIBE. A named topic
-/// that it may not is answered TOPIC_AUTHORIZATION_FAILED.
+/// Handles a Metadata: answers the one broker, and the topics that are named, or all that the caller may DESCRIBE if the list
+/// is null. A named topic that the caller may not DESCRIBE is answered TOPIC_AUTHORIZATION_FAILED, one that doesn't exist
+/// UNKNOWN_TOPIC_OR_PARTITION. No topic is created.
 pub fn answer_metadata(
     alloc: Global,
     state: &State,
@@ -116,8 +117,8 @@ fn named_topics(
     })
 }
 
-/// The answer for a topic that is named. Permission is asked first, so a caller who may not DESCRIBE the topic isn't told
-/// whether it is there.
+/// The answer for a topic that is named. Permission is asked first, so a caller who may not DESCRIBE the topic doesn't learn
+/// whether it exists.
 fn named_topic(
     alloc: Global,
     state: &State,
@@ -173,7 +174,7 @@ fn described_topics(alloc: Global, state: &State, caller: &Caller) -> Result<Ans
     })
 }
 
-/// The answer for a topic if the caller may DESCRIBE it, else `None`.
+/// The answer for an existing topic if the caller may DESCRIBE it, else `None`.
 fn described_topic(
     alloc: Global,
     state: &State,
@@ -201,7 +202,7 @@ fn described_topic(
     }
 }
 
-/// The answer for a topic, permission aside: its partitions, or UNKNOWN_TOPIC_OR_PARTITION.
+/// The answer for a topic, whoever asks: its partitions, or UNKNOWN_TOPIC_OR_PARTITION.
 fn plain_topic(alloc: Global, state: &State, name: &Text) -> Result<TopicInfo, AllocError>
     ensures { IfOk result (λ t. t ≡ plain_topic state.now name.now) }
 {

@@ -1,4 +1,4 @@
-//! Produce: batches are appended to partitions.
+//! Produce: appends batches to partitions.
 
 ghost use Rattle.std.specs.Prelude.{◌≡◌, ◌≤◌, ◌+◌, [], length, IfOk, OnOk};
 ghost use Rattle.std.specs.Option.{option_copied};
@@ -23,8 +23,8 @@ use txn_coordinator::{Coordinator, ProducerIdAndEpoch, ProducerIdOwner, Target, 
 use walk::{Part, PartApi, refusal_code, walk};
 use wire_types::{ErrorCode, Items, Text, Topic};
 
-/// How a Produce serves a partition: the caller, the transactional id and what the policy said to writing with it, the acks,
-/// the greatest size of a batch in bytes, and the open transactions.
+/// How a Produce serves a partition: `id` is the transactional id, `asked` what the policy answered to WRITE on it, and `most`
+/// the greatest size of a batch in bytes.
 #[derive(Drop)]
 pub(crate) struct ProduceHandler<'a> {
     pub(crate) caller: &'a Caller,
@@ -81,8 +81,9 @@ impl<'a> PartApi<ProducedRecords, ProducedOffset, Topics> for ProduceHandler<'a>
 }
 
 impl<'a> ProduceHandler<'a> {
-    /// Serves a partition that was granted, and gives the evidence that its permit was spent. `target` is the partition as
-    /// transactions name it, `records` the batch that was sent for it.
+    /// Appends the batch of a partition whose questions were granted, if it may be appended, and returns the partition's
+    /// answer. Spends the permit in any case. `target` is the partition as transactions name it, `records` the batch that was
+    /// sent for it.
     fn grant(
         &self,
         policy: &Policy,
@@ -113,8 +114,9 @@ impl<'a> ProduceHandler<'a> {
         produce(policy, permit, topics, name, part, batch)
     }
 
-    /// The batch to append, or the error code for which none is: the acks, the batch's fault, or its producer. It doesn't
-    /// matter whether there is such a partition.
+    /// The batch to append, or the error code for which none is: INVALID_REQUIRED_ACKS, INVALID_RECORD, the code of the batch's
+    /// fault, or that of its producer (see `producer_code`). What `Topics::append` checks isn't checked here: that the partition
+    /// exists, and the epoch and sequence number that its log has of the producer.
     fn judge(&self, target: &Target, records: Option<SentBatch>) -> Result<Batch, ErrorCode>
         ensures { result ≡ batch_to_append self.now.most self.now.coordinator.now self.now.id.now
             self.now.acks target.now records }
@@ -126,8 +128,9 @@ impl<'a> ProduceHandler<'a> {
     }
 }
 
-/// Spends the permit and appends the batch, if it is one and there is such a partition. Gives the partition's answer with
-/// the evidence of what was spent.
+/// Spends the permit in any case. If `batch` is one, hands it to `Topics::append`, which appends it or refuses it by a code of
+/// its own. Returns the evidence of the permit and the partition's answer: the offset or an error code, for a partition that
+/// doesn't exist always UNKNOWN_TOPIC_OR_PARTITION.
 fn produce(
     policy: &Policy,
     permit: Permit,
@@ -156,7 +159,7 @@ fn produce(
     }
 }
 
-/// The partition of this topic as transactions name it.
+/// The partition of this topic as transactions name it, with a copy of the topic's name.
 fn partition_at(name: &Text, index: i32) -> Result<Target, AllocError>
     ensures { IfOk result (λ target. target ≡ partition_at name.now index) }
 {
@@ -176,7 +179,7 @@ fn produced_error(error: ErrorCode, part: &ProducedRecords) -> ProducedOffset
     }
 }
 
-/// A partition's answer where its batch stands at this offset.
+/// A partition's answer if its batch stands at this offset.
 fn produced_at(offset: i64, part: &ProducedRecords) -> ProducedOffset
     ensures { result ≡ produced_at offset part.now }
 {
@@ -198,8 +201,8 @@ fn produced_to(part: &ProducedRecords, offset: Result<i64, ErrorCode>) -> Produc
     }
 }
 
-/// A partition's answer where there is no batch to append: this error code, but UNKNOWN_TOPIC_OR_PARTITION if there is no
-/// such partition (`log` is `None`).
+/// A partition's answer if there is no batch to append: this error code, but UNKNOWN_TOPIC_OR_PARTITION if there is no such
+/// partition (`log` is `None`).
 fn unproduced(code: ErrorCode, part: &ProducedRecords, log: Option<&Log>) -> ProducedOffset
     ensures { result ≡ produce_failure code part.now (option_copied log.entry) }
 {
@@ -209,8 +212,8 @@ fn unproduced(code: ErrorCode, part: &ProducedRecords, log: Option<&Log>) -> Pro
     }
 }
 
-/// The batch that was sent for a partition, if it has no fault and its producer may send it. Missing or empty records are
-/// answered INVALID_RECORD.
+/// The batch that was sent for a partition, if it has at most `most` bytes and no fault, and its producer may send it. Missing
+/// or empty records are answered INVALID_RECORD.
 fn batch_in(
     records: Option<SentBatch>,
     most: u32,
@@ -253,7 +256,7 @@ fn are_acks(acks: i16) -> bool
     acks == -1 || acks == 0 || acks == 1
 }
 
-/// The batch that was sent, if it has at most `most` bytes, or its first fault.
+/// The batch that was sent, if it has at most `most` bytes and no fault, else its first fault.
 fn sent(records: SentBatch, most: u32) -> Result<Batch, BatchFault>
     ensures { result ≡ batch_or_fault most records }
 {
@@ -261,8 +264,8 @@ fn sent(records: SentBatch, most: u32) -> Result<Batch, BatchFault>
 }
 
 /// The error code by which a batch with this header is refused because of its producer; `None` if it may be appended. A
-/// transactional batch has to belong to an open transaction with this partition. Any other has no producer id, or one that
-/// was given to an idempotent producer.
+/// transactional batch needs an open transaction that has this partition (`held_code`). Any other needs no producer id, or one
+/// that was given to an idempotent producer (`given_code`).
 fn producer_code(
     coordinator: &Coordinator,
     id: &Option<Text>,
@@ -290,8 +293,8 @@ fn pair_of(header: &BatchHeader) -> ProducerIdAndEpoch
     }
 }
 
-/// The error code by which a transactional batch is refused; `None` if this producer has an open transaction with this
-/// partition. Without a transactional id it is INVALID_TXN_STATE.
+/// The error code by which a transactional batch is refused: that of `Coordinator::holds`, or INVALID_TXN_STATE without a
+/// transactional id. `None` if this producer has an open transaction with this partition.
 fn held_code(
     coordinator: &Coordinator,
     id: &Option<Text>,
@@ -319,7 +322,7 @@ fn given_code(given: ProducerIdOwner) -> Option<ErrorCode>
     }
 }
 
-/// The reply with these answers. With acks 0 it isn't sent.
+/// The Produce reply with these answers. With acks 0 it is a `SilentProduce`, which isn't sent.
 fn produce_reply(acks: i16, topics: Items<Topic<ProducedOffset>>) -> Reply
     ensures { result ≡ produce_reply acks topics }
 {
@@ -335,7 +338,8 @@ fn produce_reply(acks: i16, topics: Items<Topic<ProducedOffset>>) -> Reply
 }
 
 /// Handles a Produce: appends the batch of each partition whose topic the caller may WRITE, if it may WRITE on the
-/// transactional id too. A refused partition is answered TRANSACTIONAL_ID_ or TOPIC_AUTHORIZATION_FAILED.
+/// transactional id too. A refused partition is answered TRANSACTIONAL_ID_ or TOPIC_AUTHORIZATION_FAILED, any other its base
+/// offset or an error code. After an allocation failure some batches may have been appended.
 pub fn answer_produce(
     alloc: Global,
     state: &mut State,

@@ -6,7 +6,7 @@ use std::net::OpenStream;
 use std::time::Duration;
 use std::{io, time};
 
-/// A clock that shows so many milliseconds, or can't be read.
+/// A clock that shows what a test sets: so many milliseconds, or, with `None`, that it can't be read.
 #[derive(Drop)]
 pub(crate) struct Hand {
     pub(crate) shows: Cell<Option<u64>>,
@@ -36,24 +36,24 @@ impl time::Clock for Hand {
         }
     }
 
-    /// The same milliseconds.
+    /// As `monotonic`: the milliseconds that the clock shows, not counted from 1970.
     fn since_1970(&self) -> io::Result<Duration> {
         self.monotonic()
     }
 }
 
-/// Bytes that come so many milliseconds after the read that waits for them.
+/// Bytes, and how many milliseconds after the read that waits for them they come.
 pub(crate) type Piece = (u64, &'static [u8]);
 
-/// A peer that says its pieces one after the other, and then no more. A read that waits for less time than a piece takes ends
-/// for its wait, after that time.
+/// A peer that sends its pieces one after the other, and is then at its end. A read whose wait is no longer than a piece takes
+/// ends after its wait.
 #[derive(Drop)]
 pub(crate) struct Peer<'x> {
     pub(crate) clock: &'x Hand,
     pub(crate) pieces: &'x [Piece],
     /// How many pieces were read.
     pub(crate) read: &'x Cell<usize>,
-    /// For how many milliseconds the last read waits at most, if there is an end to it.
+    /// For how many milliseconds a read waits at most; `None` for without end.
     pub(crate) waits: &'x Cell<Option<u64>>,
 }
 
@@ -71,8 +71,8 @@ impl Read for Peer<'_> {
 
     ghost remaining = { λ _. None };
 
-    /// Says the next piece, and moves the clock on by the time that this takes. Where the wait is no longer than that, it ends
-    /// after the wait with `WouldBlock`.
+    /// Gives the next piece, and moves the clock on by the time that it takes. Where the wait is no longer than that, it moves
+    /// the clock on by the wait and fails with `WouldBlock`.
     fn read(&mut self, piece: &mut [u8]) -> io::Result<usize> {
         let read = self.read.get();
         let Some((after, bytes)) = self.pieces.get(read) else {
@@ -91,11 +91,11 @@ impl Read for Peer<'_> {
     }
 }
 
-/// A peer that reads nothing: a write to it ends for its wait, or, where it would wait without end, since there is no clock.
+/// A peer that reads nothing: a write to it fails after its wait, or at once where it would wait without end.
 #[derive(Drop)]
 pub(crate) struct Deaf<'x> {
     pub(crate) clock: &'x Hand,
-    /// For how many milliseconds the last write waits at most, if there is an end to it.
+    /// For how many milliseconds a write waits at most; `None` for without end.
     pub(crate) waits: &'x Cell<Option<u64>>,
 }
 
@@ -109,7 +109,8 @@ impl OpenStream for Deaf<'_> {
 }
 
 impl Write for Deaf<'_> {
-    /// Takes nothing: moves the clock on by the wait, and ends with `WouldBlock`; where the wait is without end, fails at once.
+    /// Takes nothing: moves the clock on by the wait, and fails with `WouldBlock`; where the wait is without end, fails with
+    /// `Other` at once.
     fn write(&mut self, _bytes: &[u8]) -> io::Result<usize> {
         match self.waits.get() {
             Some(wait) => {

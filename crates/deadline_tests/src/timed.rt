@@ -20,11 +20,11 @@ fn times() -> Times {
 /// A frame of three bytes, whole.
 const WHOLE: &[u8] = b"\0\0\0\x03abc";
 
-/// What came of a session: how many pieces were read, what the clock showed then, and which time was over, if one was.
+/// What a session came to: how many pieces were read, what the clock shows after that, and which time was over, if one was.
 type End = (usize, Option<u64>, Option<Limit>);
 
-/// Reads until the peer says no more, or a read fails. The session begins at 7,000 milliseconds, and its user is known once so
-/// many pieces were read. Gives how that ended.
+/// Reads as often as there are pieces, or until a read fails. The session begins at 7,000 milliseconds, and its user is known
+/// once `known_after` pieces were read. Returns how that ended.
 fn end_of(times: Times, pieces: &[Piece], known_after: usize) -> End {
     let clock = Hand::at(7_000);
     let notes = Notes::new();
@@ -48,14 +48,14 @@ fn end_of(times: Times, pieces: &[Piece], known_after: usize) -> End {
     (read.get(), clock.shows.get(), notes.over())
 }
 
-/// A peer that says nothing is waited for until the time of its first frame is over, a second after it began.
+/// A peer that says nothing is waited for until the time for its first frame is over, a second after the session began.
 #[test]
 fn a_silent_peer_has_the_time_of_a_login(rt: HostRuntime) -> Result<(), Fail> {
     assert!(rt; end_of(times(), &[(5_000, WHOLE)], 9) == (0, Some(8_000), Some(Limit::Login)));
     Ok(())
 }
 
-/// Of a silent peer that has waited for a worker, the wait is taken off its time, down to a quarter of a second.
+/// The wait for a worker is taken off a silent peer's time, down to a quarter of a second.
 #[test]
 fn a_silent_peer_that_has_waited_has_less(rt: HostRuntime) -> Result<(), Fail> {
     for (waited, ends) in [(0, 8_000), (600, 7_400), (900, 7_250), (60_000, 7_250)] {

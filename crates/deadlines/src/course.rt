@@ -1,4 +1,4 @@
-//! A session's times as they pass.
+//! A session's times as they pass, and what is noted of them.
 
 use crate::limits::{Bound, Limit, Times};
 use std::cell::{Cell, OnceCell};
@@ -6,8 +6,8 @@ use std::io::ErrorKind;
 use std::time::{Duration, Instant};
 use std::{io, time};
 
-/// What is noted of a session. Whoever serves it notes that its user is known. What reads and writes it notes which time was
-/// over, how many bytes were read, and which of them came first.
+/// What is noted of a session by those who share it: its server notes that its user is known; `Timed` and `TimedWriter` note
+/// which time ran out, how many bytes were read, and which four came first.
 #[derive(Drop)]
 pub struct Notes {
     known: Cell<bool>,
@@ -33,19 +33,20 @@ impl Notes {
         self.known.set(true);
     }
 
-    /// How many bytes were read since the last call of this; the count then begins again at 0.
+    /// How many bytes were read since the last call; the count starts again at 0.
     pub fn take_read(&self) -> u64 {
         let read = self.read.get();
         self.read.set(0);
         read
     }
 
-    /// Which time ran out, so that a read or a write failed; `None` where none did.
+    /// Which time was over when a read or a write failed last; `None` where none was.
     pub fn over(&self) -> Option<Limit> {
         self.over.get()
     }
 
-    /// The session's first four bytes, if its first read brought as many; else `None`.
+    /// The session's first four bytes, which tell a client that speaks another protocol; `None` where its first read brought
+    /// fewer.
     pub fn front(&self) -> Option<[u8; 4]> {
         match self.front.get() {
             Some(front) => *front,
@@ -54,13 +55,13 @@ impl Notes {
     }
 }
 
-/// The times of a session, and when it began.
+/// The times of a session, its notes, and when it began.
 #[derive(Drop)]
 pub(crate) struct Course<'x, R> {
     rt: &'x R,
     times: Times,
     notes: &'x Notes,
-    /// None where that can't be told.
+    /// `None` where the clock couldn't be read.
     start: Option<Instant>,
 }
 
@@ -80,9 +81,9 @@ impl<'x, R: time::Clock> Course<'x, R> {
         self.start?.elapsed(self.rt).ok()
     }
 
-    /// How long the next read or write may wait, and by which limit; `None` where no limit holds. `unheard` says that no frame
-    /// has come whole yet, `begun` when a frame began of which a part has come. Where no time is left, that is noted, and the
-    /// error is `TimedOut`.
+    /// How long the next read or write may wait, and by which limit; `None` where no limit holds. `unheard`: whether no frame has
+    /// come whole yet; `begun`: when a frame began that isn't whole, counted from the session's beginning. Where no time is left,
+    /// or the clock can't be read under a limit, the limit is noted, and the error is `TimedOut`.
     pub(crate) fn bound(
         &self,
         unheard: bool,
@@ -99,15 +100,15 @@ impl<'x, R: time::Clock> Course<'x, R> {
         Ok(bound)
     }
 
-    /// Notes what was read: adds to the number of bytes, and keeps the session's first four.
+    /// Notes what a read brought: adds to the number of bytes, and keeps the first four bytes of the session's first read.
     pub(crate) fn count(&self, bytes: &[u8]) {
         let read = self.notes.read.get();
         self.notes.read.set(read.saturating_add(bytes.len() as u64));
         let _later = self.notes.front.set(front_of(bytes));
     }
 
-    /// Notes which limit ended a call that waited too long, its error being `WouldBlock` or `TimedOut`. Other errors aren't
-    /// noted.
+    /// Notes which limit ended a read or a write that waited too long, where its error is `WouldBlock` or `TimedOut`. Other
+    /// errors aren't noted.
     pub(crate) fn note(&self, bound: Option<Bound>, error: &io::Error) {
         if matches!(error.kind(), ErrorKind::WouldBlock | ErrorKind::TimedOut) {
             self.notes.over.set(by_of(bound));
@@ -115,7 +116,7 @@ impl<'x, R: time::Clock> Course<'x, R> {
     }
 }
 
-/// The first four bytes, if there are as many.
+/// The first four bytes; `None` where there are fewer.
 fn front_of(bytes: &[u8]) -> Option<[u8; 4]> {
     match bytes {
         [a, b, c, d, ..] => Some([*a, *b, *c, *d]),
@@ -131,7 +132,7 @@ fn by_of(bound: Option<Bound>) -> Option<Limit> {
     }
 }
 
-/// How long a call may wait by a bound; `None`, without end, where there is no bound.
+/// How long a call may wait by a bound; `None`, which is without end, where there is no bound.
 pub(crate) fn time_of(bound: Option<Bound>) -> Option<Duration> {
     match bound {
         None => None,

@@ -8,39 +8,39 @@ ghost use Rattle.deadlines.specs.Limits.{IsBound, IsLeast, IsLesser, first_after
 
 use std::time::Duration;
 
-/// What a peer has times for.
+/// Which of a peer's times a wait is bound by.
 #[derive(Clone, Copy, Debug, PartialEq, Eq)]
 pub enum Limit {
-    /// A wait for it.
+    /// One wait for the peer, in a read or a write.
     Idle,
-    /// Its login, from the session's beginning until its user is known.
+    /// The login, from the session's beginning until its user is known; before a first whole frame the time `Times::first`.
     Login,
     /// A frame, from its first byte to its last.
     Frame,
 }
 
-/// The times that a peer has.
+/// How long a peer may take.
 #[derive(Clone, Copy, Debug, PartialEq, Eq)]
 pub struct Times {
-    /// For a wait, if there is an end to it.
+    /// For one wait; `None` for any time.
     pub idle: Option<Duration>,
-    /// For its first frame.
+    /// From the session's beginning until a first frame is whole.
     pub first: Duration,
-    /// For its login.
+    /// From the session's beginning until its user is known, where a frame has come.
     pub login: Duration,
-    /// For each frame.
+    /// For each frame, from its first byte to its last.
     pub frame: Duration,
 }
 
-/// For how long a read may wait at most, and by which limit.
+/// For how long a read or a write may wait at most, and by which limit.
 #[derive(Clone, Copy, Debug, PartialEq, Eq)]
 pub(crate) struct Bound {
     pub(crate) time: Duration,
     pub(crate) by: Limit,
 }
 
-/// What is left at `now` of a time that began at `since`: nothing once it is over, or where `now` is `None`, since the clock
-/// can't be read.
+/// What is left at `now` of a time that began at `since`, both counted from the session's beginning: nothing once it is over, or
+/// where `now` is `None`, since the clock can't be read.
 fn left(time: Duration, since: Duration, now: Option<Duration>) -> Duration
     ensures { as_nanos result ≡ nanos_left time (as_nanos since) now }
 {
@@ -50,7 +50,7 @@ fn left(time: Duration, since: Duration, now: Option<Duration>) -> Duration
     }
 }
 
-/// The bound that leaves less time; `None` only where neither holds.
+/// The bound that leaves less time, `one` where they are equal; `None` only where neither holds.
 fn lesser(one: Option<Bound>, other: Option<Bound>) -> Option<Bound>
     ensures { IsLesser one other result }
 {
@@ -61,20 +61,21 @@ fn lesser(one: Option<Bound>, other: Option<Bound>) -> Option<Bound>
     }
 }
 
-/// The bound of a limit that holds, with this time left.
+/// The bound of a limit by which `time` is left; never `None`.
 fn bound_by(by: Limit, time: Duration) -> Option<Bound>
     ensures { IsBound by (Some (as_nanos time)) result }
 {
     Some(Bound { time, by })
 }
 
-/// The least time for a first frame, in milliseconds: whoever has something to say has said it by then.
+/// The least time that a wait in line leaves for a first frame, in milliseconds: whoever has something to say has said it by
+/// then.
 const LEAST: u64 = 250;
 
 impl Times {
-    /// These times for a peer whose connection waited for so long until a worker was free. The wait is taken off the time for its
-    /// first frame, but a quarter of a second of that stays, if it was as much. So those who wait in line after many silent peers
-    /// needn't wait for each of these as long as for the first.
+    /// These times for a peer whose connection waited so long for a free worker. The wait is taken off `first`, which keeps at
+    /// least 250 ms, or all that it had where it was less. So whoever waits for a worker after many silent peers needn't wait for
+    /// each of them as long as for the first.
     pub fn after(self, waited: Duration) -> Times
         ensures first { as_nanos result.first ≡ first_after 250000000 (as_nanos self.first)
             (as_nanos waited) }
@@ -92,7 +93,7 @@ impl Times {
         Times { first, ..self }
     }
 
-    /// For how long a wait may be by the idle time; `None` if there is no such time.
+    /// The bound of the idle time; `None` if there is no such time.
     fn idle_bound(&self) -> Option<Bound>
         ensures { IsBound Limit.Idle (option_map as_nanos self.now.idle) result }
     {
@@ -102,15 +103,15 @@ impl Times {
         }
     }
 
-    /// How long a peer may take from the session's beginning until its user is known: the time `first` until a frame of it was
-    /// whole (`unheard`), and `login` from then on.
+    /// How long a peer may take from the session's beginning until its user is known: `first` as long as no frame has come whole
+    /// (`unheard`), then `login`.
     fn login_time(&self, unheard: bool) -> Duration
         ensures { result ≡ login_time self.now unheard }
     {
         if unheard { self.first } else { self.login }
     }
 
-    /// What is left of the time for the login; `None` once the user is known.
+    /// What is left at `now` of the time for the login; `None` once the user is known.
     fn login_bound(&self, known: bool, unheard: bool, now: Option<Duration>) -> Option<Bound>
         ensures { (begun : _)
             → IsBound Limit.Login (nanos_left_by self.now known unheard begun now Limit.Login)
@@ -126,7 +127,7 @@ impl Times {
         }
     }
 
-    /// What is left of the time for a frame that began at `begun`; `None` where none has begun.
+    /// What is left at `now` of the time for a frame that began at `begun`; `None` where none has begun.
     fn frame_bound(&self, begun: Option<Duration>, now: Option<Duration>) -> Option<Bound>
         ensures { (known unheard : _)
             → IsBound Limit.Frame (nanos_left_by self.now known unheard begun now Limit.Frame)
@@ -138,8 +139,8 @@ impl Times {
         }
     }
 
-    /// How long the next read may wait: the least that the idle time, the login's and the frame's leave, of those that hold, and
-    /// which of them that is. `None` where none holds.
+    /// How long the next read or write may wait: the least that the idle time, the login's and the frame's leave at `now`, and
+    /// which of them that is. `None` where none of them holds.
     pub(crate) fn bound(
         &self,
         known: bool,

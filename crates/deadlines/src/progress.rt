@@ -9,25 +9,28 @@ use std::time::Duration;
 /// What has come of the frame that the next byte belongs to.
 #[derive(Clone, Copy, Debug, PartialEq, Eq)]
 pub(crate) enum Part {
+    /// Nothing: the byte is the first one of a frame.
     Nothing,
     /// The first byte of its size field.
     One(u8),
-    /// The first two.
+    /// The first two bytes of its size field.
     Two(u8, u8),
-    /// The first three.
+    /// The first three bytes of its size field.
     Three(u8, u8, u8),
-    /// Its size field, and its body but for so many bytes and the last.
+    /// Its size field, and its body but for so many bytes and one more.
     Body(u32),
 }
 
-/// How far a peer has come, and when the first byte came of the frame that isn't whole.
+/// How far a peer has come in its frames, and when the first byte came of the frame that isn't whole, counted from the session's
+/// beginning.
 #[derive(Clone, Copy, Debug, PartialEq, Eq)]
 pub(crate) struct Progress {
     part: Part,
     since: Duration,
 }
 
-/// The part that has come of a frame of whose body so many bytes are still to come: with none of them, the frame is whole.
+/// What has come of a frame when so many bytes of its body are still to come: where that is 0, the frame is whole, and nothing
+/// has come of the next.
 fn part_of(to_come: u32) -> Part
     ensures { result ≡ part_of to_come }
 {
@@ -38,7 +41,7 @@ fn part_of(to_come: u32) -> Part
 }
 
 impl Progress {
-    /// Nothing has come: the next byte is the first one of a frame.
+    /// No byte has come: the next one is the first one of a frame.
     pub(crate) fn new() -> Progress
         ensures { IsCut [] result }
     {
@@ -48,7 +51,7 @@ impl Progress {
         }
     }
 
-    /// When the first byte came of the frame that isn't whole yet; `None` between two frames.
+    /// When the first byte came of the frame that isn't whole yet, on the session's clock; `None` between two frames.
     pub(crate) fn begun(&self) -> Option<Duration>
         ensures { (came : List Came) → (cut : IsCut came self.now) → result ≡ frame_start cut.part }
     {
@@ -58,7 +61,7 @@ impl Progress {
         }
     }
 
-    /// Takes in the next byte of a size field, or as many bytes as belong to the same body, and gives how many that were: at
+    /// Takes in the next byte of a size field, or as many bytes as belong to the same body, and gives how many those are: at
     /// least one. `now` is counted from the session's beginning.
     fn step(&mut self, bytes: &[u8], now: Duration) -> usize
         requires { 0 < length bytes.now }

@@ -15,20 +15,20 @@ use std::net::OpenStream;
 use std::time::Duration;
 use std::{io, time};
 
-/// Reads a stream as long as its peer has time.
+/// A reader round a stream, which passes its bytes on unchanged, and fails once the peer has overrun one of its times.
 #[derive(Drop)]
 pub struct Timed<'x, S, R> {
     stream: S,
     course: Course<'x, R>,
-    /// Whether no read yet ended with a whole frame.
+    /// Whether no read has ended with a whole frame yet.
     unheard: bool,
     progress: Progress,
-    /// How long a read of the stream waits, once that was set.
+    /// The timeout that was set last for the stream's reads; the outer `None` before the first.
     waits: Option<Option<Duration>>,
 }
 
 impl<'x, S: Read + OpenStream, R: time::Clock> Timed<'x, S, R> {
-    /// A reader round a stream, whose session begins now.
+    /// A reader round a stream. Its session begins now. What it reads and which time ran out stands in `notes`.
     pub fn new(rt: &'x R, stream: S, times: Times, notes: &'x Notes) -> Timed<'x, S, R>
         ensures remaining { timed_remaining S.remaining result ≡ S.remaining stream }
         ensures nothing { IsCut [] (progress_of result) }
@@ -55,7 +55,7 @@ impl<'x, S: Read + OpenStream, R: time::Clock> Timed<'x, S, R> {
     }
 
     /// Sets, before a read, how long the stream waits: as long as its peer has time. The error is `TimedOut` where no time is
-    /// left.
+    /// left, or the stream's.
     fn prepare(&mut self) -> io::Result<Option<Bound>>
         ensures stream { self.new.stream ≡ self.old.stream }
         ensures progress { self.new.progress ≡ self.old.progress }
@@ -65,8 +65,8 @@ impl<'x, S: Read + OpenStream, R: time::Clock> Timed<'x, S, R> {
         Ok(bound)
     }
 
-    /// Takes in what was read: counts it and follows its frames. Where the clock can't be read, it counts as come when the
-    /// session began.
+    /// Takes in what a read brought: counts its bytes and follows their frames. Where the clock can't be read, the bytes count as
+    /// come when the session began.
     fn take_in(&mut self, bytes: &[u8])
         ensures stream { self.new.stream ≡ self.old.stream }
         ensures passed { (came : List Came) → IsCut came self.old.progress → (moment : Duration)
@@ -85,7 +85,7 @@ impl<'x, S: Read + OpenStream, R: time::Clock> Read for Timed<'x, S, R> {
     ghost remaining = { timed_remaining S.remaining };
 
     /// Reads as the stream does, and waits no longer than the session's times allow. Where one of them is over, before the read
-    /// or in it, that is noted, and it fails.
+    /// or in it, that is noted, and the read fails: `TimedOut` before, the stream's error in it.
     fn read(&mut self, piece: &mut [u8]) -> io::Result<usize>
         ensures bound { ReadsAtMost result piece.new }
         ensures bytes { ReadConsumes (timed_remaining S.remaining self.old)

@@ -12,17 +12,18 @@ use std::net::OpenStream;
 use std::time::Duration;
 use std::{io, time};
 
-/// Writes a stream as long as its peer has time for its login. Once the user is known, a write waits as long as for an idle peer.
+/// A writer round a stream, which waits for its peer no longer than the times for its login and for an idle peer allow; once the
+/// user is known, only the idle time holds.
 #[derive(Drop)]
 pub struct TimedWriter<'x, S, R> {
     stream: S,
     course: Course<'x, R>,
-    /// How long a write of the stream waits, once that was set.
+    /// The timeout that was set last for the stream's writes; the outer `None` before the first.
     waits: Option<Option<Duration>>,
 }
 
 impl<'x, S: Write + OpenStream, R: time::Clock> TimedWriter<'x, S, R> {
-    /// A writer round a stream, whose session begins now.
+    /// A writer round a stream. Its session begins now. Which time ran out stands in `notes`.
     pub fn new(rt: &'x R, stream: S, times: Times, notes: &'x Notes) -> TimedWriter<'x, S, R>
         ensures { timed_contents S.contents result ≡ S.contents stream }
     {
@@ -33,8 +34,8 @@ impl<'x, S: Write + OpenStream, R: time::Clock> TimedWriter<'x, S, R> {
         }
     }
 
-    /// Sets, before a write, how long the stream waits: as long as its peer has time for its login. The error is `TimedOut` where
-    /// none is left.
+    /// Sets, before a write, how long the stream waits: the lesser of the idle time and, before the user is known, what is left
+    /// of `Times::login`. The error is `TimedOut` where none is left, or the stream's.
     fn prepare(&mut self) -> io::Result<Option<Bound>>
         ensures { self.new.stream ≡ self.old.stream }
     {
@@ -52,7 +53,7 @@ impl<'x, S: Write + OpenStream, R: time::Clock> Write for TimedWriter<'x, S, R> 
     ghost contents = { timed_contents S.contents };
 
     /// Writes as the stream does, and waits no longer than the login's time and the idle time allow. Where one of them is over,
-    /// before the write or in it, that is noted, and it fails.
+    /// before the write or in it, that is noted, and the write fails.
     fn write(&mut self, bytes: &[u8]) -> io::Result<usize>
         ensures bound { WritesAtMost result bytes.now }
         ensures bytes { WriteAppends (timed_contents S.contents self.old)

@@ -13,7 +13,8 @@ use std::alloc::{AllocError, Global};
 use walk::refusal_code;
 use wire_types::{Boxed, ErrorCode, Text};
 
-/// What a key type stands for: 0 for a group, 1 for a transactional id, `None` for any other.
+/// The kind of resource that a key type of FindCoordinator stands for: 0 for a group, 1 for a transactional id, `None` for any
+/// other.
 fn kind_of(key_type: i8) -> Option<Kind>
     ensures { result ≡ kind_of key_type }
 {
@@ -54,8 +55,9 @@ fn find_error(alloc: Global, error: ErrorCode) -> Result<Reply, AllocError>
     Ok(Reply::FindCoordinator(Boxed::new(alloc, reply)?))
 }
 
-/// Handles a FindCoordinator: names this broker's only node if the caller may DESCRIBE the group or transactional id. Else
-/// answers GROUP_ or TRANSACTIONAL_ID_AUTHORIZATION_FAILED, or INVALID_REQUEST for an unknown key type.
+/// Handles a FindCoordinator: names this broker's only node if the caller may DESCRIBE the group or transactional id, whether
+/// or not it exists. Else answers GROUP_ or TRANSACTIONAL_ID_AUTHORIZATION_FAILED, or INVALID_REQUEST for an unknown key type,
+/// which asks no permission.
 pub fn answer_find_coordinator(
     alloc: Global,
     state: &State,

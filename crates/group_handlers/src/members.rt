@@ -1,4 +1,4 @@
-//! JoinGroup, SyncGroup, Heartbeat and LeaveGroup: the member of a group.
+//! JoinGroup, SyncGroup, Heartbeat and LeaveGroup: the calls of a group's member.
 
 ghost use Rattle.std.specs.Prelude.{◌≡◌, ◌<ℤ◌, ◌∷◌, [], pos, IfOk, IfErr, OnOk};
 ghost use Rattle.authorizer.specs.Asking.{AreYes, IsRefusalOf};
@@ -49,7 +49,7 @@ fn join_welcome(alloc: Global, joined: Joined) -> Result<Reply, AllocError>
     Ok(Reply::JoinGroup(Boxed::new(alloc, reply)?))
 }
 
-/// The JoinGroup reply with this error code.
+/// The JoinGroup reply with this error code: generation -1, and the member id that the request sent.
 fn join_error(
     alloc: Global,
     error: ErrorCode,
@@ -116,7 +116,8 @@ fn leave_reply(error: ErrorCode) -> Reply
     Reply::LeaveGroup(LeaveGroupReply { throttle: 0, error })
 }
 
-/// Asks the policy whether the caller may READ the group, and gives the permit or the refusal.
+/// Asks the policy whether the caller may READ the group. Returns the permit or the refusal; an `AllocError` is an allocation
+/// failure.
 fn ask_to_read(
     policy: &Policy,
     caller: &Caller,
@@ -134,8 +135,8 @@ fn ask_to_read(
     Ok(ask_one(policy, question))
 }
 
-/// Handles a JoinGroup: lets the member in and begins a new generation if the caller may READ the group, else answers
-/// GROUP_AUTHORIZATION_FAILED.
+/// Handles a JoinGroup: lets the member in and begins a new generation if the caller may READ the group, or answers the group's
+/// error code (see `Groups::join`). Else answers GROUP_AUTHORIZATION_FAILED. Nobody is waited for.
 pub fn answer_join_group(
     alloc: Global,
     state: &mut State,
@@ -162,8 +163,8 @@ pub fn answer_join_group(
     }
 }
 
-/// Handles a SyncGroup: gives the member its assignment if the caller may READ the group, else answers
-/// GROUP_AUTHORIZATION_FAILED.
+/// Handles a SyncGroup: answers the member its assignment if the caller may READ the group, or the group's error code (see
+/// `Groups::sync`). Else answers GROUP_AUTHORIZATION_FAILED.
 pub fn answer_sync_group(
     alloc: Global,
     state: &mut State,
@@ -189,8 +190,8 @@ pub fn answer_sync_group(
     }
 }
 
-/// Handles a Heartbeat: begins the member's session timeout anew if the caller may READ the group, else answers
-/// GROUP_AUTHORIZATION_FAILED.
+/// Handles a Heartbeat: begins the member's session timeout anew if the caller may READ the group, or answers the group's error
+/// code (see `Groups::beat`). Else answers GROUP_AUTHORIZATION_FAILED.
 pub fn answer_heartbeat(
     alloc: Global,
     state: &mut State,
@@ -215,7 +216,9 @@ pub fn answer_heartbeat(
     }
 }
 
-/// Handles a LeaveGroup: removes the member if the caller may READ the group, else answers GROUP_AUTHORIZATION_FAILED.
+/// Handles a LeaveGroup: removes the member that the request names if the caller may READ the group, or answers
+/// INVALID_GROUP_ID for the empty group id, UNKNOWN_MEMBER_ID if that isn't the group's member. Else answers
+/// GROUP_AUTHORIZATION_FAILED. The group keeps its generation and offsets.
 pub fn answer_leave_group(
     alloc: Global,
     state: &mut State,

@@ -1,4 +1,4 @@
-//! OffsetCommit: offsets of partitions are committed for a group.
+//! OffsetCommit: commits offsets of partitions for a group.
 
 ghost use Rattle.std.specs.Prelude.{◌≡◌, [], IfOk, OnOk};
 ghost use Rattle.std.specs.Option.{option_copied};
@@ -19,8 +19,8 @@ use std::alloc::{AllocError, Global};
 use walk::{Part, PartApi, refusal_code, walk};
 use wire_types::{ErrorCode, Text};
 
-/// Serves the partitions of an OffsetCommit. It holds the caller, the group and member for which it commits, what the policy said
-/// to READ of the group, and the topics.
+/// Serves the partitions of an OffsetCommit. It holds the caller, the group and member for which it commits, what the policy
+/// answered to READ of the group (`asked`), and the topics.
 #[derive(Drop)]
 pub(crate) struct OffsetCommitHandler<'a> {
     pub(crate) caller: &'a Caller,
@@ -71,8 +71,8 @@ impl<'a> PartApi<OffsetToCommit, CommittedOffset, Groups> for OffsetCommitHandle
 }
 
 impl<'a> OffsetCommitHandler<'a> {
-    /// Commits the offset of a partition that the caller may commit, by the permit to READ the group, and gives the error code:
-    /// UNKNOWN_TOPIC_OR_PARTITION if it has no log, else what the group answers.
+    /// Commits the offset of a partition that the caller may commit. Spends the permit to READ the group in any case. Returns
+    /// the error code: UNKNOWN_TOPIC_OR_PARTITION if `log` is `None`, else what the group answers (see `Groups::commit`).
     fn commit(
         &self,
         alloc: Global,
@@ -99,7 +99,7 @@ impl<'a> OffsetCommitHandler<'a> {
     }
 }
 
-/// The offset that the request sends for this partition of the topic `name`.
+/// The offset that the request sends for this partition of the topic `name`. Null metadata becomes the empty text.
 fn offset_of(
     alloc: Global,
     name: &Text,
@@ -121,7 +121,8 @@ fn committed_code(error: ErrorCode, part: &OffsetToCommit) -> CommittedOffset
 }
 
 /// Handles an OffsetCommit: commits the offset of each partition for the group if the caller may READ the group and the topic.
-/// Each partition is answered an error code of its own.
+/// Each partition is answered an error code of its own: GROUP_ or TOPIC_AUTHORIZATION_FAILED, or that of
+/// `OffsetCommitHandler::commit`. After an allocation failure some offsets may have been committed.
 pub fn answer_offset_commit(
     alloc: Global,
     state: &mut State,

@@ -21,8 +21,8 @@ use std::alloc::{AllocError, Global};
 use walk::{Part, PartApi, refusal_code, walk};
 use wire_types::{ErrorCode, Items, Text, Topic};
 
-/// Serves the partitions that an OffsetFetch names. It holds the caller, the group's offsets, and whether only stable ones are
-/// wanted: those of which no transaction has staged another (KIP-447).
+/// Serves the partitions that an OffsetFetch names. It holds the caller, the group's offsets, and whether stable offsets are
+/// required (`stable`, KIP-447): a partition of which a transaction that isn't over has staged an offset then has none.
 #[derive(Drop)]
 pub(crate) struct OffsetFetchHandler<'a> {
     pub(crate) caller: &'a Caller,
@@ -97,8 +97,8 @@ fn fetched_at(offset: &PartitionOffset, index: i32) -> Result<FetchedOffset, All
     })
 }
 
-/// A partition's answer: its committed offset, -1 if there is none, or UNSTABLE_OFFSET_COMMIT if `stable` is set and a
-/// transaction that isn't over has staged another.
+/// A partition's answer: its committed offset, or -1 with NONE if there is none; UNSTABLE_OFFSET_COMMIT if `stable` is set and
+/// a transaction that isn't over has staged an offset of it. Whether the partition exists isn't checked here.
 fn fetched(
     alloc: Global,
     offsets: &Offsets,
@@ -128,7 +128,7 @@ fn fetch_reply(error: ErrorCode, topics: Items<Topic<FetchedOffset>>) -> Reply
 }
 
 /// The answers for the partitions of a topic, from 0 up to but not including `count`, that have a committed offset, or with
-/// `stable` a staged one.
+/// `stable` a staged one (see `fetched`). Permission isn't asked.
 fn told_from(
     alloc: Global,
     offsets: &Offsets,
@@ -146,7 +146,7 @@ fn told_from(
     Ok(told)
 }
 
-/// Appends the partition's answer to the list, if it has a committed offset, or with `stable` a staged one.
+/// Appends the partition's answer to the list `told`, if it has a committed offset, or with `stable` a staged one.
 fn push_told(
     alloc: Global,
     told: &mut Items<FetchedOffset>,
@@ -166,7 +166,8 @@ fn push_told(
     Ok(())
 }
 
-/// The answers for all partitions of a topic that have any, `None` if there are none. Permission isn't asked.
+/// The answers for all partitions of a topic that have a committed offset, or with `stable` a staged one; `None` if there are
+/// none. Permission isn't asked.
 fn told_as(
     alloc: Global,
     offsets: &Offsets,
@@ -186,8 +187,7 @@ fn told_as(
     Ok(Some(Topic { name, partitions }))
 }
 
-/// The answers for all partitions of a topic that have any, `None` if there are none, or the caller may not DESCRIBE the topic: a
-/// fetch of all offsets leaves such a topic out.
+/// As `told_as`, if the caller may DESCRIBE the topic. `None` if not: a fetch of all offsets leaves such a topic out.
 fn told_topic(
     alloc: Global,
     caller: &Caller,
@@ -218,8 +218,8 @@ fn told_topic(
     }
 }
 
-/// The answers for all topics that the caller may DESCRIBE, where an OffsetFetch asks for all offsets of the group. `spent`
-/// counts the permits that are spent.
+/// The answers for the topics of the broker that the caller may DESCRIBE and that have an offset to tell, if an OffsetFetch asks
+/// for all offsets of the group. `spent` counts the permits that are spent. The refusals of other topics are kept nowhere.
 fn told_topics(
     alloc: Global,
     caller: &Caller,
@@ -245,9 +245,11 @@ fn told_topics(
     Ok(topics)
 }
 
-/// Handles an OffsetFetch: gives the group's committed offsets if the caller may DESCRIBE the group, else
-/// GROUP_AUTHORIZATION_FAILED. A partition that is named is told TOPIC_AUTHORIZATION_FAILED if the caller may not DESCRIBE its
-/// topic; where all are asked for, such topics are left out.
+/// Handles an OffsetFetch: answers the group's committed offsets if the caller may DESCRIBE the group, else
+/// GROUP_AUTHORIZATION_FAILED for the whole. A named partition is answered TOPIC_AUTHORIZATION_FAILED if the caller may not
+/// DESCRIBE its topic, offset -1 with NONE if nothing is committed, and with require_stable UNSTABLE_OFFSET_COMMIT if a
+/// transaction whose marker for the group isn't written yet has staged an offset of it. A null list asks for all partitions that
+/// have any of these offsets; topics that the caller may not DESCRIBE are left out.
 pub fn answer_offset_fetch(
     alloc: Global,
     state: &State,
@@ -273,8 +275,8 @@ pub fn answer_offset_fetch(
     }
 }
 
-/// The answer from the group's offsets, for the partitions that the request names, or for all if it names none at all (null).
-/// `paid` are the permits spent for the group.
+/// The answer from the group's offsets, for the partitions that the request names, or for all if its list is null. `paid` is
+/// the evidence of the permit that was spent for the group.
 fn fetched_offsets(
     alloc: Global,
     state: &State,

@@ -1,4 +1,4 @@
-//! One group.
+//! One consumer group: its member, and what the calls on it do.
 
 ghost use Rattle.std.specs.Prelude.{◌≡◌, IfOk, OnOk, OnErr};
 ghost use Rattle.group_offsets.specs.declared.event.OffsetEvent.TheVariants as events;
@@ -50,8 +50,8 @@ impl Group {
         }
     }
 
-    /// Why a call with this generation and member id is refused: UNKNOWN_MEMBER_ID or ILLEGAL_GENERATION. `None` if they are the
-    /// group's.
+    /// Why a call with this generation and member id is refused: UNKNOWN_MEMBER_ID if the id isn't the member's, else
+    /// ILLEGAL_GENERATION if the generation isn't the group's. `None` if it isn't refused.
     fn member_refusal(&self, generation: i32, member: &Text) -> Option<ErrorCode>
         ensures { result ≡ member_refusal self.now generation member.now }
     {
@@ -64,7 +64,8 @@ impl Group {
         None
     }
 
-    /// Notes that the member was heard of at `moment`, in milliseconds. Its session timeout begins anew.
+    /// Notes that the member was heard of at `moment`, in milliseconds: its session timeout begins anew. Without a member
+    /// nothing happens.
     fn hear(&mut self, moment: u64)
         ensures { self.new ≡ heard_at moment self.old }
     {
@@ -73,8 +74,9 @@ impl Group {
         }
     }
 
-    /// Does a SyncGroup at `moment`, in milliseconds: gives the member its assignment, and keeps the one it brings if that is
-    /// awaited. Errors: INVALID_GROUP_ID, UNKNOWN_MEMBER_ID, ILLEGAL_GENERATION. An allocation failure changes nothing.
+    /// Does a SyncGroup at `moment`, in milliseconds: returns the member's assignment, and begins its session timeout anew. If
+    /// no assignment is kept yet, the one that the request brings for the member is kept, or the empty one. A refusal
+    /// (INVALID_GROUP_ID, UNKNOWN_MEMBER_ID, ILLEGAL_GENERATION) or an allocation failure changes nothing.
     pub(crate) fn sync(
         &mut self,
         request: &SyncGroupRequest,
@@ -103,8 +105,8 @@ impl Group {
         Ok(Ok(answer))
     }
 
-    /// Does a Heartbeat at `moment`, in milliseconds: the member's session timeout begins anew. Errors: INVALID_GROUP_ID,
-    /// UNKNOWN_MEMBER_ID, ILLEGAL_GENERATION.
+    /// Does a Heartbeat at `moment`, in milliseconds: the member's session timeout begins anew. A refusal (INVALID_GROUP_ID,
+    /// UNKNOWN_MEMBER_ID, ILLEGAL_GENERATION) changes nothing.
     pub(crate) fn beat(&mut self, request: &HeartbeatRequest, moment: u64) -> Result<(), ErrorCode>
         ensures group { self.new ≡ group_after self.old (beat_group self.old request.now moment) }
         ensures answer { result ≡ answer_of (beat_group self.old request.now moment) }
@@ -120,7 +122,7 @@ impl Group {
         Ok(())
     }
 
-    /// Does a LeaveGroup: removes the member. Errors: INVALID_GROUP_ID, UNKNOWN_MEMBER_ID.
+    /// Does a LeaveGroup: removes the member. The generation and the offsets stay. Errors: INVALID_GROUP_ID, UNKNOWN_MEMBER_ID.
     pub(crate) fn leave(&mut self, request: &LeaveGroupRequest) -> Result<(), ErrorCode>
         ensures group { self.new ≡ group_after self.old (leave_group self.old request.now) }
         ensures answer { result ≡ answer_of (leave_group self.old request.now) }
@@ -136,7 +138,7 @@ impl Group {
         Ok(())
     }
 
-    /// Removes the member if its session timeout is over at `moment`, in milliseconds.
+    /// Removes the member if at `moment`, in milliseconds, it wasn't heard of for longer than its session timeout.
     pub(crate) fn expire(&mut self, moment: u64)
         ensures group { self.new ≡ without_lapsed moment self.old }
         ensures name { self.new.name ≡ self.old.name }
@@ -153,8 +155,9 @@ impl Group {
         self.member = None;
     }
 
-    /// Commits an offset (OffsetCommit), as the member or as no member. Errors: UNKNOWN_MEMBER_ID, ILLEGAL_GENERATION,
-    /// REBALANCE_IN_PROGRESS. An allocation failure changes nothing.
+    /// Commits an offset (OffsetCommit), as the member or as no member. The session timeout doesn't begin anew. A refusal
+    /// (UNKNOWN_MEMBER_ID, ILLEGAL_GENERATION, REBALANCE_IN_PROGRESS, see `commit_refusal`) or an allocation failure changes
+    /// nothing.
     pub(crate) fn commit(
         &mut self,
         metadata: &GroupMetadata,
@@ -177,9 +180,9 @@ impl Group {
         Ok(Ok(()))
     }
 
-    /// Why an OffsetCommit is refused: UNKNOWN_MEMBER_ID or ILLEGAL_GENERATION if its member or generation isn't the group's, or
-    /// it names none while the group has a member; REBALANCE_IN_PROGRESS if the member's SyncGroup is awaited. `None` if it isn't
-    /// refused.
+    /// Why an OffsetCommit is refused: UNKNOWN_MEMBER_ID or ILLEGAL_GENERATION if its member or generation isn't the group's;
+    /// UNKNOWN_MEMBER_ID if it names none (generation -1 and the empty id) while the group has a member; REBALANCE_IN_PROGRESS
+    /// if the member's SyncGroup is awaited. `None` if it isn't refused.
     fn commit_refusal(&self, metadata: &GroupMetadata) -> Option<ErrorCode>
         ensures { result ≡ commit_refusal self.now metadata.now.generation metadata.now.member.now }
     {
@@ -197,8 +200,10 @@ impl Group {
         }
     }
 
-    /// Stages an offset in a producer's transaction (TxnOffsetCommit), to be committed or dropped with it. Errors:
-    /// UNKNOWN_MEMBER_ID, ILLEGAL_GENERATION. An allocation failure changes nothing.
+    /// Stages an offset in the transaction of the producer id `producer` (TxnOffsetCommit), to be committed or dropped with it.
+    /// Whether that transaction is open isn't checked here. Errors: UNKNOWN_MEMBER_ID, ILLEGAL_GENERATION; generation -1 with
+    /// the empty member id is never refused. The member's session timeout doesn't begin anew. A refusal or an allocation
+    /// failure changes nothing.
     pub(crate) fn stage(
         &mut self,
         metadata: &GroupMetadata,
@@ -222,7 +227,8 @@ impl Group {
         Ok(Ok(()))
     }
 
-    /// Commits or drops the offsets that the producer staged, as its transaction is over. An allocation failure changes nothing.
+    /// Commits or drops the offsets that the producer id `producer` staged, as its transaction is over. An allocation failure
+    /// changes nothing.
     pub(crate) fn decide(
         &mut self,
         producer: i64,
@@ -237,8 +243,8 @@ impl Group {
         Ok(())
     }
 
-    /// Why a TxnOffsetCommit is refused: UNKNOWN_MEMBER_ID or ILLEGAL_GENERATION if it names a generation or a member (KIP-447)
-    /// that aren't the group's. `None` if it isn't refused.
+    /// Why a TxnOffsetCommit is refused: UNKNOWN_MEMBER_ID or ILLEGAL_GENERATION if it names a member or generation (KIP-447)
+    /// that isn't the group's. `None` if it isn't refused, which generation -1 with the empty member id never is.
     fn stage_refusal(&self, metadata: &GroupMetadata) -> Option<ErrorCode>
         ensures { result ≡ stage_refusal self.now metadata.now.generation metadata.now.member.now }
     {
@@ -261,7 +267,8 @@ fn given_to(member: &Text, given: &[MemberAssignment]) -> Result<Bytes, AllocErr
     Ok(Bytes::new())
 }
 
-/// Whether the member's session timeout is over at `moment`, in milliseconds. It never is without a member.
+/// Whether the member wasn't heard of for longer than its session timeout at `moment`, in milliseconds. `false` without a
+/// member.
 fn is_lapsed(moment: u64, member: &Option<Member>) -> bool
     ensures { result ≡ is_lapsed moment member.now }
 {

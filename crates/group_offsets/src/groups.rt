@@ -62,7 +62,7 @@ impl Groups {
         }
     }
 
-    /// The groups in the order in which they began, without any permit: for whoever runs the broker.
+    /// The groups in the order in which they began, for whoever runs the broker. It takes no permit.
     pub fn as_slice(&self) -> &[Group]
         ensures { result.now ≡ self.now }
     {
@@ -79,9 +79,10 @@ impl Groups {
         }
     }
 
-    /// Does a JoinGroup by a permit to READ the group, at `moment`, in milliseconds, as event number `place`. A new group begins
-    /// with its first member. Errors: INVALID_GROUP_ID, INVALID_SESSION_TIMEOUT, INCONSISTENT_GROUP_PROTOCOL, UNKNOWN_MEMBER_ID,
-    /// GROUP_MAX_SIZE_REACHED. An allocation failure changes nothing.
+    /// Does a JoinGroup by a permit to READ the group, which it spends in any case, at `moment`, in milliseconds. A new
+    /// member's id is made of the event number `place`. A group that doesn't exist begins with its first member. Errors:
+    /// INVALID_GROUP_ID, INVALID_SESSION_TIMEOUT, INCONSISTENT_GROUP_PROTOCOL, UNKNOWN_MEMBER_ID, GROUP_MAX_SIZE_REACHED. A
+    /// refusal or an allocation failure changes nothing.
     pub fn join(
         &mut self,
         alloc: Global,
@@ -107,8 +108,8 @@ impl Groups {
         (spent, self.join_first(alloc, request, place, moment))
     }
 
-    /// Does a JoinGroup of a group that doesn't exist: it begins, unless the call is refused. An allocation failure changes
-    /// nothing.
+    /// Does a JoinGroup of a group that doesn't exist: it begins, unless the call is refused. Parameters as in `join`. An
+    /// allocation failure changes nothing.
     fn join_first(
         &mut self,
         alloc: Global,
@@ -129,9 +130,9 @@ impl Groups {
         Ok(answer)
     }
 
-    /// Does a SyncGroup by a permit to READ the group, at `moment`, in milliseconds: gives the member its assignment, and keeps
-    /// the one it brings if that is awaited. Errors: INVALID_GROUP_ID, UNKNOWN_MEMBER_ID, ILLEGAL_GENERATION. An allocation
-    /// failure changes nothing.
+    /// Does a SyncGroup by a permit to READ the group, which it spends in any case, at `moment`, in milliseconds: returns the
+    /// member's assignment, keeps the one that the request brings if that is awaited, and begins the session timeout anew. A
+    /// refusal (INVALID_GROUP_ID, UNKNOWN_MEMBER_ID, ILLEGAL_GENERATION) or an allocation failure changes nothing.
     pub fn sync(
         &mut self,
         policy: &Policy,
@@ -154,8 +155,8 @@ impl Groups {
         (spent, group.sync(request, moment))
     }
 
-    /// Does a Heartbeat by a permit to READ the group, at `moment`, in milliseconds: the member's session timeout begins anew.
-    /// Errors: INVALID_GROUP_ID, UNKNOWN_MEMBER_ID, ILLEGAL_GENERATION.
+    /// Does a Heartbeat by a permit to READ the group, which it spends in any case, at `moment`, in milliseconds: the member's
+    /// session timeout begins anew. A refusal (INVALID_GROUP_ID, UNKNOWN_MEMBER_ID, ILLEGAL_GENERATION) changes nothing.
     pub fn beat(
         &mut self,
         policy: &Policy,
@@ -175,7 +176,8 @@ impl Groups {
         (spent, group.beat(request, moment))
     }
 
-    /// Does a LeaveGroup by a permit to READ the group: removes the member. Errors: INVALID_GROUP_ID, UNKNOWN_MEMBER_ID.
+    /// Does a LeaveGroup by a permit to READ the group, which it spends in any case: removes the member. The group and its
+    /// offsets stay. Errors: INVALID_GROUP_ID, UNKNOWN_MEMBER_ID.
     pub fn leave(
         &mut self,
         policy: &Policy,
@@ -194,8 +196,9 @@ impl Groups {
         (spent, group.leave(request))
     }
 
-    /// Commits an offset (OffsetCommit) by a permit to READ the group. A new group begins with its first offset. Errors:
-    /// UNKNOWN_MEMBER_ID, ILLEGAL_GENERATION, REBALANCE_IN_PROGRESS. An allocation failure changes nothing.
+    /// Commits an offset (OffsetCommit) by a permit to READ the group, which it spends in any case. A group that doesn't exist
+    /// begins with its first offset. A refusal (UNKNOWN_MEMBER_ID, ILLEGAL_GENERATION, REBALANCE_IN_PROGRESS, as in
+    /// `Group::commit`) or an allocation failure changes nothing.
     pub fn commit(
         &mut self,
         alloc: Global,
@@ -250,8 +253,10 @@ impl Groups {
         Ok(answer)
     }
 
-    /// Stages an offset in a producer's transaction (TxnOffsetCommit) by a permit to READ the group. A new group begins with its
-    /// first offset. Errors: UNKNOWN_MEMBER_ID, ILLEGAL_GENERATION. An allocation failure changes nothing.
+    /// Stages an offset in the transaction of the producer id `producer` (TxnOffsetCommit) by a permit to READ the group, which
+    /// it spends in any case. Whether that transaction is open isn't checked here. A group that doesn't exist begins with its
+    /// first offset. A refusal (UNKNOWN_MEMBER_ID, ILLEGAL_GENERATION, as in `Group::stage`) or an allocation failure changes
+    /// nothing.
     pub fn stage(
         &mut self,
         alloc: Global,
@@ -308,8 +313,9 @@ impl Groups {
         Ok(answer)
     }
 
-    /// Commits or drops the offsets that a producer staged for the group, as its transaction is over: this is the transaction's
-    /// marker to a group. An allocation failure changes nothing.
+    /// Commits or drops the offsets that the producer id `producer` staged for the group `name`, as its transaction is over:
+    /// writes the transaction's marker to the group. It takes no permit. A group that doesn't exist begins. An allocation
+    /// failure changes nothing.
     pub fn decide(
         &mut self,
         alloc: Global,
@@ -329,7 +335,8 @@ impl Groups {
         self.begin(group)
     }
 
-    /// The committed and staged offsets of a group, none if it doesn't exist, by a permit to DESCRIBE it.
+    /// Returns the committed and staged offsets of a group, none if it doesn't exist, by a permit to DESCRIBE it, which it
+    /// spends.
     pub fn fetch(&self, policy: &Policy, permit: Permit, name: &Text) -> (Spent, &Offsets)
         requires { MayUse policy.now operations.Describe name.now permit }
         ensures spent { result.0 ≡ permit.question }
@@ -348,7 +355,7 @@ impl Groups {
         }
     }
 
-    /// Keeps a new group, unless its first call was refused. An allocation failure changes nothing.
+    /// Adds a new group, unless its first call was refused (`answer`). An allocation failure changes nothing.
     fn keep<A>(&mut self, group: Group, answer: &Result<A, ErrorCode>) -> Result<(), AllocError>
         requires { find_group self.old group.name ≡ None }
         ensures ok { OnOk result
@@ -372,7 +379,8 @@ impl Groups {
         Ok(())
     }
 
-    /// Removes each member whose session timeout is over at `moment`, in milliseconds.
+    /// Removes each member that at `moment`, in milliseconds, wasn't heard of for longer than its session timeout. Its group
+    /// stays.
     pub fn expire(&mut self, moment: u64)
         ensures { self.new ≡ map (without_lapsed moment) self.old }
     {
@@ -380,7 +388,7 @@ impl Groups {
     }
 }
 
-/// Removes each member whose session timeout is over at `moment`, in milliseconds. Its group stays.
+/// As `Groups::expire`, for the table of the groups.
 fn expire_all(groups: &mut IndexMap<String, Group, RandomState>, moment: u64)
     ensures { groups.new.entries ≡ all_expired moment groups.old.entries }
 {

@@ -1,4 +1,4 @@
-//! How a member comes into a group.
+//! How a member joins a group (JoinGroup).
 
 ghost use Rattle.std.specs.Prelude.{◌≡◌, ◌↔◌, IsTrue, ◌<ℤ◌, pos, IfOk, OnOk, OnErr};
 ghost use Rattle.std.specs.Option.{option_copied};
@@ -18,9 +18,10 @@ const LEAST_TIMEOUT: u32 = 6_000;
 const GREATEST_TIMEOUT: u32 = 1_800_000;
 
 impl Group {
-    /// Does a JoinGroup at `moment`, in milliseconds, as event number `place`: the member is in, and a new generation begins.
-    /// Errors: INVALID_GROUP_ID, INVALID_SESSION_TIMEOUT, INCONSISTENT_GROUP_PROTOCOL, UNKNOWN_MEMBER_ID, and
-    /// GROUP_MAX_SIZE_REACHED for a second member. An allocation failure changes nothing.
+    /// Does a JoinGroup at `moment`, in milliseconds: the member joins, a new generation begins, and its SyncGroup is awaited.
+    /// A new member's id is made of the event number `place`. Errors: INVALID_GROUP_ID, INVALID_SESSION_TIMEOUT,
+    /// INCONSISTENT_GROUP_PROTOCOL, UNKNOWN_MEMBER_ID for an id that isn't the member's, and GROUP_MAX_SIZE_REACHED for a
+    /// second member. A refusal or an allocation failure changes nothing.
     pub(crate) fn join(
         &mut self,
         alloc: Global,
@@ -60,7 +61,8 @@ impl Group {
         self.generation < i32::MAX
     }
 
-    /// The answer to a member that joins by event number `place`: its id, the new generation and the chosen protocol.
+    /// The answer to a member that joins by event number `place`: its id, the next generation and the chosen protocol. `member`
+    /// is the id that it sent. Nothing is changed.
     fn welcome(
         &self,
         alloc: Global,
@@ -124,7 +126,8 @@ fn session_timeout(asked: i32) -> Option<u32>
     }
 }
 
-/// The protocol of the new generation: the first that the member offers. `None` if it offers none, or names no protocol type.
+/// The protocol of the new generation: the first that the member offers. `None` if it offers none, or its protocol type is
+/// empty.
 fn chosen(request: &JoinGroupRequest) -> Option<&OfferedProtocol>
     ensures { option_copied result ≡ chosen_protocol request.now }
 {
@@ -134,8 +137,8 @@ fn chosen(request: &JoinGroupRequest) -> Option<&OfferedProtocol>
     request.protocols.get(0)
 }
 
-/// The id of the member that joins: the one that it sends, or a new id made of the event number `place` if it sends the empty
-/// one.
+/// The id of the member that joins: the one that it sends, or a new id `m-PLACE` with the event number `place` if it sends the
+/// empty one.
 fn member_id(alloc: Global, member: &Text, place: u64) -> Result<Text, AllocError>
     ensures { IfOk result (λ id. id ≡ member_id member.now place) }
 {

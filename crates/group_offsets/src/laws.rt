@@ -2,13 +2,14 @@
 
 ghost use Rattle.group_offsets.specs.Laws.{CommittedGoesOn, PendingGoesOn, StagedIsPending, GroupsAreApart, AnswersAreApart};
 
-/// The last OffsetCommit gives the committed offset. A staged offset takes effect at its producer's next decision, if that is a
-/// commit, and is the committed one from then on.
+/// A partition's committed offset is the one that was committed last: by an OffsetCommit of it, or by the commit of a
+/// transaction, with the offset of it that the producer staged last. Staging alone and aborts don't change it.
 pub fn committed_goes_on()
     ensures { CommittedGoesOn }
 {}
 
-/// What a producer staged last stays undecided until that producer's next decision.
+/// The offset of a partition that a producer staged last stays undecided until that producer's transaction is decided, or until
+/// the producer stages another. Nothing else ends that.
 pub fn pending_goes_on()
     ensures { PendingGoesOn }
 {}
@@ -18,12 +19,15 @@ pub fn staged_is_pending()
     ensures { StagedIsPending }
 {}
 
-/// What a group holds after any calls depends only on what it held and on the calls that concern that group.
+/// What a group holds after any calls and ticks depends only on what it held, on the calls that name it, and on the ticks. A
+/// tick, which removes members whose session timeout is over, concerns every group.
 pub fn groups_are_apart()
     ensures { GroupsAreApart }
 {}
 
-/// What a group answers after any calls depends only on what it held and on the calls that concern that group.
+/// What a JoinGroup, SyncGroup, Heartbeat, LeaveGroup, commit or staging of offsets, or marker is answered after any calls and
+/// ticks depends only on the call itself, on what its group held, on the earlier calls that name the group, and on the ticks.
+/// OffsetFetch isn't among the calls.
 pub fn answers_are_apart()
     ensures { AnswersAreApart }
 {}

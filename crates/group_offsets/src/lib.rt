@@ -1,10 +1,9 @@
 //! Consumer groups of at most one member, and the offsets that are committed for them.
 //!
-//! [`Groups`] are the groups of a broker. The calls of members are the group membership APIs of the Kafka protocol guide;
-//! each lends the policy and spends a permit for its group, whatever it answers.
+//! [`Groups`] are the groups of a broker. The calls of members are the group membership APIs of the Kafka protocol guide; each
+//! takes the policy and spends a permit for its group, whatever it answers.
 //!
-//! What one of them holds, and what a call on it comes to, is told of that group alone; [`Groups`] finds it by its name, and
-//! takes the permits.
+//! A [`Group`] does what a call on it does to that group alone; [`Groups`] finds it by its name, and takes the permits.
 #![tactic(auto)]
 
 mod event;

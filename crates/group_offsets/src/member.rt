@@ -7,7 +7,7 @@ use wire_types::Text;
 #[derive(Drop)]
 pub struct Member {
     pub id: Text,
-    /// How long the member may be silent, in milliseconds.
+    /// How long the member may be silent before it is removed, in milliseconds.
     pub session_timeout: u32,
     /// The moment of the last JoinGroup, SyncGroup or Heartbeat that was answered without an error, in milliseconds.
     pub heard: u64,

@@ -1,4 +1,4 @@
-//! A partition as a key.
+//! A partition as a key of the table of a group's offsets.
 
 ghost use Rattle.std.specs.Prelude.{◌≡◌, IfOk};
 ghost use Rattle.std.specs.String.{string_bytes};
@@ -23,7 +23,7 @@ pub struct Wanted<'a> {
 }
 
 impl Partition {
-    /// The partition that the offset is of.
+    /// The partition of this offset, with a copy of its topic's name.
     pub(crate) fn of(alloc: Global, offset: &PartitionOffset) -> Result<Partition, AllocError>
         ensures topic { IfOk result (λ p. string_bytes p.topic ≡ offset.now.topic) }
         ensures index { IfOk result (λ p. p.index ≡ offset.now.index) }

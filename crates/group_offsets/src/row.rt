@@ -1,4 +1,4 @@
-//! What is kept of one partition's offsets.
+//! What a group keeps of one partition's offsets.
 
 ghost use Rattle.std.specs.Prelude.{◌≡◌, ◌<◌, [], Some, None, OnOk, is_some};
 ghost use Rattle.std.specs.HashMap.{spare};
@@ -8,7 +8,7 @@ use record_batch::TransactionResult;
 use std::alloc::{AllocError, Global};
 use std::collections::HashMap;
 
-/// What is known of one partition's offsets: the places, in the group's list of events, of those that count.
+/// The offsets of one partition: the places, in the group's list of events from 0, of the events that count.
 #[derive(Drop)]
 pub struct Row {
     /// The place of the event with the committed offset, `None` if there is none.

@@ -1,4 +1,4 @@
-//! Of each producer the rows in which it waits.
+//! The rows, by producer id, in which a producer has undecided offsets.
 
 ghost use Rattle.std.specs.Prelude.{◌≡◌, ℤ, is_some, OnOk, OnErr};
 ghost use Rattle.group_offsets.specs.Kept.{waits, rows_of, has_row, AreOnce, HasMore, HasSame, HasLast};
@@ -10,8 +10,8 @@ use std::collections::HashMap;
 /// By producer id, the places of the rows in which it has a staged offset that is undecided.
 pub(crate) type Staged = HashMap<i64, Vec<usize>>;
 
-/// Lists the row at this place under the producer, unless the producer already has an undecided offset in it. An allocation
-/// failure lists nothing.
+/// Lists the row at the place `at` of the table under the producer, unless the producer already has an undecided offset in it.
+/// `row` is that row. An allocation failure lists nothing.
 pub(crate) fn enter(
     staged: &mut Staged,
     alloc: Global,
@@ -31,7 +31,7 @@ pub(crate) fn enter(
     add(staged, alloc, producer, at)
 }
 
-/// Lists the row at this place under the producer, after its others. An allocation failure lists nothing.
+/// Lists the row at the place `at` of the table under the producer, after its others. An allocation failure lists nothing.
 fn add(staged: &mut Staged, alloc: Global, producer: i64, at: usize) -> Result<(), AllocError>
     ensures ok { OnOk result (HasLast staged.old.entries staged.new.entries producer at) }
     ensures err { OnErr result

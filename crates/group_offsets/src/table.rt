@@ -81,7 +81,7 @@ impl Table {
         }
     }
 
-    /// Notes the next event, which stands at this place. An allocation failure changes no partition's offsets.
+    /// Notes the next event, which stands at `place` in the group's list. An allocation failure changes no partition's offsets.
     pub(crate) fn note(&mut self, event: &OffsetEvent, place: usize) -> Result<(), AllocError>
         requires { IsTable self.old }
         ensures table { IsTable self.new }
@@ -143,7 +143,8 @@ impl Table {
         }
     }
 
-    /// The place of the row of the offset's partition; a partition that has none gets an empty one.
+    /// Returns the place of the row of the offset's partition; a partition that has none gets an empty one. An allocation
+    /// failure adds none.
     fn row_for(&mut self, offset: &PartitionOffset) -> Result<usize, AllocError>
         requires { IsTable self.old }
         ensures table { IsTable self.new }
@@ -161,7 +162,7 @@ impl Table {
     }
 }
 
-/// Commits or drops what the producer has staged, in the rows at these places.
+/// Commits or drops what the producer staged in the rows at these places.
 fn decide_rows(
     rows: &mut IndexMap<Partition, Row>,
     places: &[usize],

@@ -30,10 +30,10 @@ const MISUSED: u8 = 2;
 /// The exit status of a server that was never started, and of a file that can't be opened.
 const FAILED: u8 = 1;
 
-/// For so many milliseconds at most the answer to a Fetch without a record is held back from clients that stand on librdkafka.
+/// For how many milliseconds at most the answer to a Fetch without a record is held back with `--librdkafka`.
 const PATIENCE: u64 = 100;
 
-/// How many seconds after a stop connections are closed that are still open, unless that is given.
+/// How many seconds after a stop connections are closed that are still open, unless `--grace` says otherwise.
 const GRACE: u64 = 5;
 
 /// What the command line is called in sentences, and standard input.
@@ -60,8 +60,8 @@ fn grace_of(serving: Serving<'_>) -> Option<Duration> {
     }
 }
 
-/// How connections are served, by the options of `serve`. The settings have so many ACL bindings; `log_times` says that a time
-/// stands before each line of the log.
+/// How connections are served, by the options of `serve`. `bindings` is how many ACL bindings the settings have; `log_times` says
+/// that a time and a level stand before each line of the log.
 fn options_of(serving: Serving<'_>, bindings: usize, log_times: bool) -> ServeOptions {
     let (listed, patience) = if serving.librdkafka {
         (
@@ -98,7 +98,8 @@ fn options_of(serving: Serving<'_>, bindings: usize, log_times: bool) -> ServeOp
     }
 }
 
-/// Prints this line, says why nothing is done, and gives the exit status 1.
+/// Prints `line` to `writer`, and `kbroker: WHAT: WHY` to `errors`: what can't be used, and why. Gives the exit status 1. That a
+/// write or an allocation fails isn't reported.
 fn fail<W: Write, E: Write>(
     alloc: Global,
     writer: &mut W,
@@ -112,7 +113,7 @@ fn fail<W: Write, E: Write>(
     FAILED
 }
 
-/// Prints this line, says why nothing is done, with the system's reason, and gives the exit status 1.
+/// As `fail`, but prints `kbroker: WHAT: WHY: REASON`, the last being the system's reason.
 fn fail_by<W: Write, E: Write>(
     alloc: Global,
     writer: &mut W,
@@ -127,7 +128,7 @@ fn fail_by<W: Write, E: Write>(
     FAILED
 }
 
-/// Says why the input of this name can't be read, where its last read failed.
+/// Says why the input of this name can't be read, where its last read failed; else nothing.
 fn explain_read<R: Read, E: Write>(alloc: Global, errors: &mut E, name: &str, reader: &Noted<R>) {
     let Some(reason) = reader.reason() else {
         return;
@@ -137,7 +138,7 @@ fn explain_read<R: Read, E: Write>(alloc: Global, errors: &mut E, name: &str, re
     }
 }
 
-/// Says that an argument is not UTF-8, and gives the exit status 2. Any other error is given back.
+/// Says that an argument is not UTF-8, and gives the exit status 2. Any other error is returned.
 fn misread<E: Write>(alloc: Global, errors: &mut E, error: io::Error) -> io::Result<ExitCode> {
     if error.kind() != ErrorKind::InvalidData {
         return Err(error);
@@ -146,7 +147,8 @@ fn misread<E: Write>(alloc: Global, errors: &mut E, error: io::Error) -> io::Res
     Ok(ExitCode::from(MISUSED))
 }
 
-/// Tells whoever sits at a terminal that this job waits for standard input, if it reads that to its end.
+/// Says that this job waits for standard input, if it reads the settings or the script there. The caller looks that standard
+/// input is a terminal.
 fn prompt<E: Write>(alloc: Global, errors: &mut E, job: Job<'_>) {
     let why = match job {
         Job::Replay(None) | Job::Show(Showing { file: None, .. }) => {
@@ -160,12 +162,12 @@ fn prompt<E: Write>(alloc: Global, errors: &mut E, job: Job<'_>) {
     explain(alloc, errors, STANDARD_INPUT, why);
 }
 
-/// What is done with the text of a file, or of standard input.
+/// What is done with the text of a file, or of standard input, other than to serve.
 #[derive(Clone, Copy, Debug, PartialEq, Eq)]
 enum Task<'a> {
-    /// Its script is answered.
+    /// Its script is answered, as `replay` does.
     Replay,
-    /// It is told what is wrong with its settings.
+    /// Its settings are checked, as `check` does.
     Check,
     /// Its script is shown, with the answers in this file, or with those that are made anew where there is none.
     Show(Option<&'a str>),
@@ -194,7 +196,8 @@ impl Task<'_> {
         status
     }
 
-    /// Does the task with the text of this file, or else of standard input, and gives the exit status.
+    /// Does the task with the text of this file, or of standard input for `None`, and gives the exit status, which is 1 where the
+    /// file can't be opened.
     fn run_on<T: Input + Files, W: Write, E: Write>(
         self,
         rt: &T,
@@ -216,7 +219,7 @@ impl Task<'_> {
     }
 }
 
-/// Says that the settings' file can't be opened, and gives the exit status 1.
+/// Prints `open failed`, says that the settings' file can't be opened, and gives the exit status 1.
 fn fail_to_open<W: Write, E: Write>(
     alloc: Global,
     writer: &mut W,
@@ -229,7 +232,8 @@ fn fail_to_open<W: Write, E: Write>(
 }
 
 /// Opens a broker with the settings that `reader` gives, listens, and serves connections, by the clock or as lines steer it.
-/// Gives the exit status.
+/// Gives the exit status: 1 also where it never comes to serve; then a line on `writer`, a sentence on `errors`, or both tell of
+/// it, as far as they can be written.
 fn serve_connections<
     T: Net<Listener = TcpListener, Stream = TcpStream>
         + Threads
@@ -302,7 +306,7 @@ fn serve_connections<
     serve(rt, alloc, core, server, writer, errors)
 }
 
-/// Runs `serve` with the settings in the file that is named, or else in standard input, and gives the exit status.
+/// Runs `serve` with the settings in the file of `--settings`, or else in standard input, and gives the exit status.
 fn serve_by<
     T: Net<Listener = TcpListener, Stream = TcpStream>
         + Threads
@@ -343,7 +347,8 @@ where
     serve_connections(rt, alloc, serving, file, steering, writer, errors)
 }
 
-/// Does what the command line asks for, and ends with its exit status.
+/// Does what the command line asks for, and ends with its exit status: 2 where the command line isn't understood. The error is
+/// that of the system, or an allocation failure.
 fn main(rt: HostRuntime) -> io::Result<ExitCode> {
     let alloc = rt.alloc();
     let mut errors = rt.stderr();

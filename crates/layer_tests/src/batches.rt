@@ -30,7 +30,7 @@ const THOUSAND: &str =
     "0000000000000000000023190000000002a71c3b260000000003e700000000000000000000000000000000ffffffffff\
     ffffffffffffffffff000003e8";
 
-/// The record batch that hexadecimal digits spell; an error where they spell none.
+/// The record batch of at most 10,000 bytes that hexadecimal digits spell; the test fails if they spell none.
 fn batch_of(alloc: Global, digits: &str) -> Result<Batch, Fail> {
     let bytes = Bytes::from_vec(hex::decode(alloc, digits)?)?;
     match Batch::check(bytes, 10_000) {
@@ -79,7 +79,7 @@ fn fields(rt: HostRuntime) -> Result<(), Fail> {
     Ok(())
 }
 
-/// The records of a batch, each with its offset; none where offsets are out of range.
+/// The records of a batch, each with its offset; none if its offsets are out of range.
 fn records_of(alloc: Global, batch: &Batch) -> Result<Items<RecordAt>, AllocError> {
     if batch.has_offsets() {
         batch.recs(alloc)
@@ -154,7 +154,7 @@ fn thousand_records(rt: HostRuntime) -> Result<(), Fail> {
     Ok(())
 }
 
-/// The bytes of a batch, one after the other, though they may be in two pieces.
+/// The bytes of a batch, one after the other, in a new vector, though the batch may hold them in two pieces.
 fn written(alloc: Global, batch: &Batch) -> Result<Vec<u8>, AllocError> {
     let mut out = Vec::new(alloc);
     batch.bytes().push_to(&mut out)?;
@@ -224,7 +224,7 @@ fn leader_epoch_of_a_stored_batch(rt: HostRuntime) -> Result<(), Fail> {
     Ok(())
 }
 
-/// The fault of bytes as a batch that may have at most so many; `None` where they are one.
+/// The fault of these bytes as a batch of at most `max` bytes; `None` if they are one.
 fn fault_of(bytes: Vec<u8>, max: u32) -> Result<Option<BatchFault>, AllocError> {
     Ok(Batch::check(Bytes::from_vec(bytes)?, max).err())
 }

@@ -2,7 +2,8 @@
 
 use wire_types::ErrorCode;
 
-/// An error code has the number of the protocol guide, and is found by it; unknown numbers aren't.
+/// An error code has the number of the protocol guide, and is found by it; a number that `ErrorCode` doesn't have, such as 4,
+/// gives `None`.
 #[test]
 fn code_numbers(rt: HostRuntime) {
     assert_eq!(rt; ErrorCode::ProducerFenced.number(), 90);

@@ -10,7 +10,8 @@ use wire_types::{Bytes, Items, Malformed, ReadFault};
 const ALL_TOPICS: &[u8] =
     b"\x00\x00\x00\x0e\x00\x03\x00\x01\x00\x00\x00\x01\xff\xff\xff\xff\xff\xff";
 
-/// The header of a request's frame, and whether the request is written as the same frame; `None` where it can't be read.
+/// The header of a request's frame, and whether the request is written as the same frame; `None` if it can't be read or
+/// written.
 fn comes_back(alloc: Global, frame: &[u8]) -> Option<(Header, bool)> {
     let (_size, bytes) = frame.split_at(frame.len().min(4));
     let bytes = Bytes::copy_from_slice(alloc, bytes).ok()?;
@@ -30,7 +31,7 @@ fn a_header(rt: HostRuntime) {
     assert!(rt; comes_back(rt.alloc(), ALL_TOPICS) == Some((header, true)));
 }
 
-/// Whether nothing is sent for a reply; `None` where it can't be written.
+/// Whether nothing is sent for a reply; `None` if it can't be written.
 fn is_silent(alloc: Global, reply: Reply) -> Option<bool> {
     let written = write_reply(alloc, 9, &reply);
     drop(reply);
@@ -79,7 +80,7 @@ fn apis(rt: HostRuntime) {
     assert_eq!(rt; Api::in_last_version(ApiKey::Metadata).version(), 1);
 }
 
-/// The fault of a frame without its size field, in hexadecimal digits; `None` where it is a request that is served.
+/// The fault of a frame without its size field, given in hexadecimal digits; `None` if it is a request that is served.
 fn fault_of(alloc: Global, digits: &str) -> Result<Option<ReadFault>, Fail> {
     let frame = Bytes::from_vec(hex::decode(alloc, digits)?)?;
     Ok(read_request(alloc, &frame).err())

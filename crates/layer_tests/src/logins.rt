@@ -1,4 +1,4 @@
-//! What is told at a login.
+//! The replies to SASL requests at a login.
 
 use msg_login::{SaslAuthenticateReply, SaslHandshakeReply};
 use std::test::Fail;

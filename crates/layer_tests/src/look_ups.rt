@@ -9,7 +9,8 @@ use std::hash::RandomState;
 use std::test::Fail;
 use wire_types::{Items, Text};
 
-/// Adds an ACL that allows Ann to write to the topic of this name, or to those whose names begin so, or forbids it.
+/// Adds an ACL that allows or denies User:ann to WRITE to the topic of this name, or with `Prefixed` to those whose names begin
+/// with it. The test fails on an empty name.
 fn bind(
     alloc: Global,
     policy: &mut Policy,
@@ -36,7 +37,8 @@ fn bind(
     Ok(())
 }
 
-/// A policy in which Root may do everything, and Ann may write to what begins with `pay.`, but not to `pay.x`, and to `zoë`.
+/// A policy in which User:root is a super user, and User:ann may WRITE to topics whose names begin with `pay.`, but not to
+/// `pay.x`, and to `zoë`.
 fn policy_of(alloc: Global, hasher: RandomState) -> Result<Policy, Fail> {
     let supers = vec![in alloc; Text::of(alloc, "User:root")?]?;
     let mut policy = Policy::new(alloc, Items::from(supers), hasher);
@@ -64,7 +66,7 @@ fn policy_of(alloc: Global, hasher: RandomState) -> Result<Policy, Fail> {
     Ok(policy)
 }
 
-/// The question whether somebody may write to a topic.
+/// The question whether `who`, from the host 10.0.0.5, may WRITE to a topic.
 fn asked(alloc: Global, who: &str, topic: &str) -> Result<Question, AllocError> {
     let caller = Caller {
         who: Text::of(alloc, who)?,
@@ -73,7 +75,7 @@ fn asked(alloc: Global, who: &str, topic: &str) -> Result<Question, AllocError> 
     caller.asks(Operation::Write, Kind::Topic, &Text::of(alloc, topic)?)
 }
 
-/// How often names are looked up where Ann asks to write to this topic.
+/// How many names are looked up if User:ann asks to WRITE to this topic.
 fn looked(alloc: Global, policy: &Policy, topic: &str) -> Result<u64, AllocError> {
     Ok(policy.verdict_counted(&asked(alloc, "User:ann", topic)?).1)
 }

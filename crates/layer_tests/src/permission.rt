@@ -1,4 +1,4 @@
-//! Operations that nothing is asked for.
+//! Operations that no served request asks the policy for, DESCRIBE_CONFIGS and ALL, and what allows them.
 
 use acl_binding::{Binding, Book, Caller, Kind, Operation, Pattern, Permission, Question, Verdict};
 use std::alloc::{AllocError, Global};
@@ -7,7 +7,7 @@ use wire_types::Text;
 
 const ANN: &str = "User:ann";
 
-/// The question whether Ann may do something with the topic `a`.
+/// The question whether User:ann, from the host 10.0.0.5, may do this operation on the topic `a`.
 fn asked(alloc: Global, operation: Operation) -> Result<Question, AllocError> {
     let caller = Caller {
         who: Text::of(alloc, ANN)?,
@@ -29,7 +29,7 @@ fn allow(alloc: Global, operation: Operation) -> Result<Binding, AllocError> {
     })
 }
 
-/// What a book in which one operation is allowed says to another one.
+/// The verdict on `operation` by a book whose only binding allows `own`.
 fn verdict(alloc: Global, own: Operation, operation: Operation) -> Result<Verdict, AllocError> {
     let question = asked(alloc, operation)?;
     let binding = allow(alloc, own)?;

@@ -30,7 +30,7 @@ fn push_permission(sheet: &mut Sheet, operation: i8, permission: i8) -> Result<(
 }
 
 impl Fields for FilterEntry {
-    /// Appends an ACL filter: which bindings a DescribeAcls or a DeleteAcls is about.
+    /// Appends an ACL filter: which bindings a DescribeAcls or a DeleteAcls is about. `null` fields match any value.
     fn push_fields(&self, sheet: &mut Sheet) -> Result<(), AllocError> {
         push_resource_type(sheet, "resource_type_filter", self.kind)?;
         sheet.push_nullable("resource_name_filter", &self.name)?;
@@ -41,7 +41,8 @@ impl Fields for FilterEntry {
     }
 }
 
-/// Appends the fields of an ACL binding. The name of the pattern type's field is given, since CreateAcls has another one for it.
+/// Appends the fields of an ACL binding. `pattern_type` is the name of the pattern type's field, which CreateAcls names
+/// otherwise.
 fn push_binding(
     sheet: &mut Sheet,
     binding: &BindingEntry,
@@ -90,7 +91,7 @@ impl Fields for DescribedResource {
 }
 
 impl Fields for DescribeAclsReply {
-    /// Appends the response: its error, and the resources with the bindings that were found.
+    /// Appends the response: its throttle time, its error, and the resources with the bindings that were found.
     fn push_fields(&self, sheet: &mut Sheet) -> Result<(), AllocError> {
         sheet.push("throttle_time_ms", self.throttle)?;
         sheet.push_error("error_code", self.error)?;
@@ -107,7 +108,7 @@ impl Fields for CreateAclsRequest {
 }
 
 impl Fields for CreatedAcl {
-    /// Appends how the creation of one binding went.
+    /// Appends how the creation of one binding went: its error and the error's message.
     fn push_fields(&self, sheet: &mut Sheet) -> Result<(), AllocError> {
         sheet.push_error("error_code", self.error)?;
         sheet.push_nullable("error_message", &self.message)
@@ -115,7 +116,7 @@ impl Fields for CreatedAcl {
 }
 
 impl Fields for CreateAclsReply {
-    /// Appends the response: how the creation of each binding went.
+    /// Appends the response: its throttle time, and how the creation of each binding went.
     fn push_fields(&self, sheet: &mut Sheet) -> Result<(), AllocError> {
         sheet.push("throttle_time_ms", self.throttle)?;
         sheet.push_list("results", self.results.as_slice())
@@ -130,7 +131,7 @@ impl Fields for DeleteAclsRequest {
 }
 
 impl Fields for DeletedAcl {
-    /// Appends a binding that a filter of a DeleteAcls request deleted.
+    /// Appends a binding that a filter of a DeleteAcls request matched: the error of its deletion, the message, and the binding.
     fn push_fields(&self, sheet: &mut Sheet) -> Result<(), AllocError> {
         sheet.push_error("error_code", self.error)?;
         sheet.push_nullable("error_message", &self.message)?;
@@ -139,7 +140,7 @@ impl Fields for DeletedAcl {
 }
 
 impl Fields for DeletedAcls {
-    /// Appends the result of one filter of a DeleteAcls request: its error, and the bindings that were deleted.
+    /// Appends the result of one filter of a DeleteAcls request: its error and message, and the bindings that it matched.
     fn push_fields(&self, sheet: &mut Sheet) -> Result<(), AllocError> {
         sheet.push_error("error_code", self.error)?;
         sheet.push_nullable("error_message", &self.message)?;
@@ -148,7 +149,7 @@ impl Fields for DeletedAcls {
 }
 
 impl Fields for DeleteAclsReply {
-    /// Appends the response: the result of each filter.
+    /// Appends the response: its throttle time, and the result of each filter.
     fn push_fields(&self, sheet: &mut Sheet) -> Result<(), AllocError> {
         sheet.push("throttle_time_ms", self.throttle)?;
         sheet.push_list("filter_results", self.results.as_slice())

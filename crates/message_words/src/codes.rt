@@ -1,6 +1,6 @@
 //! What numbers in messages stand for: the names of the protocol guide and of its documentation of access control.
 
-/// What the acks of a Produce wait for: -1, 0 or 1; `None` for any other number.
+/// What a Produce with these acks waits for, in the protocol guide's words: -1, 0 or 1; `None` for any other number.
 pub(crate) fn acks_name(acks: i16) -> Option<&'static str> {
     match acks {
         -1 => Some("full ISR"),
@@ -10,7 +10,8 @@ pub(crate) fn acks_name(acks: i16) -> Option<&'static str> {
     }
 }
 
-/// Which offset a timestamp of ListOffsets asks for, where it is no time: -1 the latest, -2 the earliest; else `None`.
+/// Which offset the timestamp of a ListOffsets asks for, where the number is no time: -1 the latest, -2 the earliest; else
+/// `None`.
 pub(crate) fn timestamp_name(timestamp: i64) -> Option<&'static str> {
     match timestamp {
         -1 => Some("latest"),
@@ -19,7 +20,7 @@ pub(crate) fn timestamp_name(timestamp: i64) -> Option<&'static str> {
     }
 }
 
-/// What the key of a FindCoordinator names, by its key type; `None` for an unknown number.
+/// What the key of a FindCoordinator names, by its key type, such as `GROUP`; `None` for an unknown number.
 pub(crate) fn key_type_name(key_type: i8) -> Option<&'static str> {
     match key_type {
         0 => Some("GROUP"),
@@ -89,7 +90,8 @@ pub(crate) fn permission_type_name(permission_type: i8) -> Option<&'static str> 
     }
 }
 
-/// The codec that the lowest three bits of a batch's attributes name, such as `gzip`; `unknown` for a number without one.
+/// The codec that the lowest three bits of a batch's attributes stand for, such as `gzip`; `none` for 0, `unknown` for a number
+/// without a codec.
 pub(crate) fn compression_name(compression: u16) -> &'static str {
     match compression {
         0 => "none",

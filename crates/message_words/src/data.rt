@@ -14,7 +14,7 @@ use std::alloc::AllocError;
 use wire_types::Text;
 
 impl Fields for ProducedRecords {
-    /// Appends a partition of a Produce request, and its record batches.
+    /// Appends a partition of a Produce request: its index, and its record batches, or `null`.
     fn push_fields(&self, sheet: &mut Sheet) -> Result<(), AllocError> {
         sheet.push("index", self.index)?;
         match &self.records {
@@ -25,7 +25,7 @@ impl Fields for ProducedRecords {
 }
 
 impl Fields for ProduceRequest {
-    /// Appends the request: its acks, and the record batches of each partition.
+    /// Appends the request: its transactional id, acks and timeout, and the record batches of each partition.
     fn push_fields(&self, sheet: &mut Sheet) -> Result<(), AllocError> {
         let names = TopicNames {
             list: "topic_data",
@@ -40,7 +40,7 @@ impl Fields for ProduceRequest {
 }
 
 impl Fields for ProducedOffset {
-    /// Appends a partition of a Produce response: its error, and the offset of its first record.
+    /// Appends a partition of a Produce response: its index, its error, the base offset, and the log append time.
     fn push_fields(&self, sheet: &mut Sheet) -> Result<(), AllocError> {
         sheet.push("index", self.index)?;
         sheet.push_error("error_code", self.error)?;
@@ -50,7 +50,7 @@ impl Fields for ProducedOffset {
 }
 
 impl Fields for ProduceReply {
-    /// Appends the response: the result of each partition.
+    /// Appends the response: the result of each partition, and the throttle time.
     fn push_fields(&self, sheet: &mut Sheet) -> Result<(), AllocError> {
         let names = TopicNames {
             list: "responses",
@@ -71,7 +71,7 @@ fn push_isolation(sheet: &mut Sheet, isolation: Isolation) -> Result<(), AllocEr
 }
 
 impl Fields for FetchPartition {
-    /// Appends a partition of a Fetch request: from which offset it is read, and how much.
+    /// Appends a partition of a Fetch request: its index, from which offset it is read, and how many bytes at most.
     fn push_fields(&self, sheet: &mut Sheet) -> Result<(), AllocError> {
         sheet.push("partition", self.index)?;
         sheet.push("fetch_offset", self.offset)?;
@@ -80,7 +80,7 @@ impl Fields for FetchPartition {
 }
 
 impl Fields for FetchRequest {
-    /// Appends the request: its limits, its isolation level, and its partitions.
+    /// Appends the request: its replica id, its limits of time and bytes, its isolation level, and its partitions.
     fn push_fields(&self, sheet: &mut Sheet) -> Result<(), AllocError> {
         let names = TopicNames {
             list: "topics",
@@ -105,7 +105,8 @@ impl Fields for AbortedTransaction {
 }
 
 impl Fields for FetchedRecords {
-    /// Appends a partition of a Fetch response: its error, its offsets, its aborted transactions and its record batches.
+    /// Appends a partition of a Fetch response: its index, its error, its high watermark and last stable offset, its aborted
+    /// transactions and its record batches, for which the records are copied together.
     fn push_fields(&self, sheet: &mut Sheet) -> Result<(), AllocError> {
         sheet.push("partition_index", self.index)?;
         sheet.push_error("error_code", self.error)?;
@@ -118,7 +119,7 @@ impl Fields for FetchedRecords {
 }
 
 impl Fields for FetchReply {
-    /// Appends the response: what was fetched of each partition.
+    /// Appends the response: its throttle time, and what was fetched of each partition.
     fn push_fields(&self, sheet: &mut Sheet) -> Result<(), AllocError> {
         let names = TopicNames {
             list: "responses",
@@ -131,7 +132,7 @@ impl Fields for FetchReply {
 }
 
 impl Fields for WantedOffset {
-    /// Appends a partition of a ListOffsets request, and the timestamp whose offset is asked for.
+    /// Appends a partition of a ListOffsets request: its index, and the timestamp whose offset is asked for.
     fn push_fields(&self, sheet: &mut Sheet) -> Result<(), AllocError> {
         sheet.push("partition_index", self.index)?;
         sheet.push_coded("timestamp", self.timestamp, timestamp_name(self.timestamp))
@@ -139,7 +140,7 @@ impl Fields for WantedOffset {
 }
 
 impl Fields for ListOffsetsRequest {
-    /// Appends the request: its isolation level, and its partitions.
+    /// Appends the request: its replica id, its isolation level, and its partitions.
     fn push_fields(&self, sheet: &mut Sheet) -> Result<(), AllocError> {
         sheet.push("replica_id", self.replica)?;
         push_isolation(sheet, self.isolation)?;
@@ -148,7 +149,7 @@ impl Fields for ListOffsetsRequest {
 }
 
 impl Fields for FoundOffset {
-    /// Appends a partition of a ListOffsets response: its error, and the offset that was found.
+    /// Appends a partition of a ListOffsets response: its index, its error, and the timestamp and the offset that were found.
     fn push_fields(&self, sheet: &mut Sheet) -> Result<(), AllocError> {
         sheet.push("partition_index", self.index)?;
         sheet.push_error("error_code", self.error)?;
@@ -158,14 +159,14 @@ impl Fields for FoundOffset {
 }
 
 impl Fields for ListOffsetsReply {
-    /// Appends the response: the offset of each partition.
+    /// Appends the response: its throttle time, and the offset of each partition.
     fn push_fields(&self, sheet: &mut Sheet) -> Result<(), AllocError> {
         sheet.push("throttle_time_ms", self.throttle)?;
         push_topics(sheet, TopicNames::USUAL, self.topics.as_slice())
     }
 }
 
-/// The name of a topic that is asked for.
+/// The name of a topic in a Metadata request.
 impl Fields for Text {
     /// Appends the topic's name.
     fn push_fields(&self, sheet: &mut Sheet) -> Result<(), AllocError> {
@@ -181,7 +182,7 @@ impl Fields for MetadataRequest {
 }
 
 impl Fields for BrokerInfo {
-    /// Appends a broker of a Metadata response: its node id and its address.
+    /// Appends a broker of a Metadata response: its node id, its host and port, and its rack.
     fn push_fields(&self, sheet: &mut Sheet) -> Result<(), AllocError> {
         sheet.push("node_id", self.node)?;
         sheet.push_text("host", &self.host)?;
@@ -191,7 +192,7 @@ impl Fields for BrokerInfo {
 }
 
 impl Fields for PartitionInfo {
-    /// Appends a partition of a Metadata response: its leader, its replicas, and those in sync.
+    /// Appends a partition of a Metadata response: its error, its index, its leader, its replicas, and those in sync.
     fn push_fields(&self, sheet: &mut Sheet) -> Result<(), AllocError> {
         sheet.push_error("error_code", self.error)?;
         sheet.push("partition_index", self.index)?;
@@ -202,7 +203,7 @@ impl Fields for PartitionInfo {
 }
 
 impl Fields for TopicInfo {
-    /// Appends a topic of a Metadata response, and its partitions.
+    /// Appends a topic of a Metadata response: its error, its name, whether it is internal, and its partitions.
     fn push_fields(&self, sheet: &mut Sheet) -> Result<(), AllocError> {
         sheet.push_error("error_code", self.error)?;
         sheet.push_text("name", &self.name)?;

@@ -7,7 +7,8 @@ use msg_admin::read_request;
 use std::alloc::{AllocError, Global};
 use wire_types::{Bytes, Malformed, ReadFault};
 
-/// Whether the first `count` bytes of a frame are a request that breaks off: it has no fault so far, but bytes are missing.
+/// Whether the first `count` bytes of a frame are a request that breaks off: they have no fault but that bytes are missing. The
+/// error is an allocation failure.
 fn is_short(alloc: Global, frame: &Bytes, count: usize) -> Result<bool, AllocError>
     requires { count ≤ length frame.now }
     ensures { IfOk result (λ short. short ≡ is_short (take count frame.now)) }
@@ -20,11 +21,11 @@ fn is_short(alloc: Global, frame: &Bytes, count: usize) -> Result<bool, AllocErr
     }
 }
 
-/// How many bytes of a frame, from the front, show its first fault: with one byte less they are only too few.
+/// Where the first fault of a malformed frame shows: the least number of leading bytes that are no longer a request which only
+/// breaks off. `frame` stands without its size field.
 ///
-/// So it is where the field that is at fault ends, a text with its last byte and a count after its own bytes. Where the bytes are
-/// too few it is the end of the frame; where there are bytes after the body, the end of the body. The frame is given without its
-/// size field.
+/// That is where the field that is at fault ends, a text with its last byte and a count after its own bytes. Where bytes are
+/// missing, it is the end of the frame; where bytes follow the body, the end of the body, as for a frame without a fault.
 pub fn fault_end(alloc: Global, frame: &Bytes) -> Result<usize, AllocError>
     ensures { IfOk result (λ end. IsFaultEnd frame.now end) }
 {

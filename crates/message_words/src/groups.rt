@@ -19,7 +19,7 @@ impl Fields for OfferedProtocol {
 }
 
 impl Fields for JoinGroupRequest {
-    /// Appends the request: the group and the member, its timeouts, and the protocols that it offers.
+    /// Appends the request: the group, its timeouts, the member, the protocol type, and the protocols that it offers.
     fn push_fields(&self, sheet: &mut Sheet) -> Result<(), AllocError> {
         sheet.push_text("group_id", &self.group)?;
         sheet.push("session_timeout_ms", self.session_timeout)?;
@@ -39,7 +39,8 @@ impl Fields for JoinedMember {
 }
 
 impl Fields for JoinGroupReply {
-    /// Appends the response: the generation, the protocol, the leader, and the members.
+    /// Appends the response: its throttle time, its error, the generation, the protocol, the leader, the member's own id, and the
+    /// members.
     fn push_fields(&self, sheet: &mut Sheet) -> Result<(), AllocError> {
         sheet.push("throttle_time_ms", self.throttle)?;
         sheet.push_error("error_code", self.error)?;
@@ -60,7 +61,7 @@ impl Fields for MemberAssignment {
 }
 
 impl Fields for SyncGroupRequest {
-    /// Appends the request: the group, the member and its generation, and the assignments, if it comes from the leader.
+    /// Appends the request: the group, the member and its generation, and the assignments, of which only the leader sends any.
     fn push_fields(&self, sheet: &mut Sheet) -> Result<(), AllocError> {
         sheet.push_text("group_id", &self.group)?;
         sheet.push("generation_id", self.generation)?;
@@ -70,7 +71,7 @@ impl Fields for SyncGroupRequest {
 }
 
 impl Fields for SyncGroupReply {
-    /// Appends the response: the member's assignment.
+    /// Appends the response: its throttle time, its error, and the member's assignment.
     fn push_fields(&self, sheet: &mut Sheet) -> Result<(), AllocError> {
         sheet.push("throttle_time_ms", self.throttle)?;
         sheet.push_error("error_code", self.error)?;
@@ -88,7 +89,7 @@ impl Fields for HeartbeatRequest {
 }
 
 impl Fields for HeartbeatReply {
-    /// Appends the response: its error.
+    /// Appends the response: its throttle time and its error.
     fn push_fields(&self, sheet: &mut Sheet) -> Result<(), AllocError> {
         sheet.push("throttle_time_ms", self.throttle)?;
         sheet.push_error("error_code", self.error)
@@ -104,7 +105,7 @@ impl Fields for LeaveGroupRequest {
 }
 
 impl Fields for LeaveGroupReply {
-    /// Appends the response: its error.
+    /// Appends the response: its throttle time and its error.
     fn push_fields(&self, sheet: &mut Sheet) -> Result<(), AllocError> {
         sheet.push("throttle_time_ms", self.throttle)?;
         sheet.push_error("error_code", self.error)
@@ -112,7 +113,7 @@ impl Fields for LeaveGroupReply {
 }
 
 impl Fields for OffsetToCommit {
-    /// Appends a partition of an OffsetCommit request, and the offset to commit.
+    /// Appends a partition of an OffsetCommit request: its index, and the offset to commit with its metadata.
     fn push_fields(&self, sheet: &mut Sheet) -> Result<(), AllocError> {
         sheet.push("partition_index", self.index)?;
         sheet.push("committed_offset", self.offset)?;
@@ -121,7 +122,8 @@ impl Fields for OffsetToCommit {
 }
 
 impl Fields for OffsetCommitRequest {
-    /// Appends the request: the group, the member and its generation, and the offset to commit for each partition.
+    /// Appends the request: the group, the member and its generation, the retention time, and the offset to commit for each
+    /// partition.
     fn push_fields(&self, sheet: &mut Sheet) -> Result<(), AllocError> {
         sheet.push_text("group_id", &self.group)?;
         sheet.push("generation_id_or_member_epoch", self.generation)?;
@@ -132,7 +134,7 @@ impl Fields for OffsetCommitRequest {
 }
 
 impl Fields for CommittedOffset {
-    /// Appends a partition of an OffsetCommit response: its error.
+    /// Appends a partition of an OffsetCommit response: its index and its error.
     fn push_fields(&self, sheet: &mut Sheet) -> Result<(), AllocError> {
         sheet.push("partition_index", self.index)?;
         sheet.push_error("error_code", self.error)
@@ -147,7 +149,8 @@ impl Fields for OffsetCommitReply {
 }
 
 impl Fields for OffsetFetchRequest {
-    /// Appends the request: the group, and the partitions whose offsets are asked for; `null` asks for all of them.
+    /// Appends the request: the group, the partitions whose offsets are asked for, where `null` asks for all of them, and whether
+    /// the offsets must be stable.
     fn push_fields(&self, sheet: &mut Sheet) -> Result<(), AllocError> {
         let names = TopicNames {
             list: "topics",
@@ -164,7 +167,8 @@ impl Fields for OffsetFetchRequest {
 }
 
 impl Fields for FetchedOffset {
-    /// Appends a partition of an OffsetFetch response: its committed offset, or -1, and its error.
+    /// Appends a partition of an OffsetFetch response: its index, its committed offset, or -1, with leader epoch and metadata,
+    /// and its error.
     fn push_fields(&self, sheet: &mut Sheet) -> Result<(), AllocError> {
         sheet.push("partition_index", self.index)?;
         sheet.push("committed_offset", self.offset)?;
@@ -175,7 +179,7 @@ impl Fields for FetchedOffset {
 }
 
 impl Fields for OffsetFetchReply {
-    /// Appends the response: the committed offset of each partition.
+    /// Appends the response: its throttle time, the committed offset of each partition, and its error.
     fn push_fields(&self, sheet: &mut Sheet) -> Result<(), AllocError> {
         sheet.push("throttle_time_ms", self.throttle)?;
         push_topics(sheet, TopicNames::USUAL, self.topics.as_slice())?;

@@ -1,8 +1,8 @@
 //! Requests, replies and frames in words: each field by its name in the Kafka protocol guide.
 //!
-//! Responses are read back as a client reads them, and where a frame's first fault stands is found by reading less of it.
-//! Whatever has fields implements `Fields`, one file for each family of apis, and `Sheet` lays the fields out. What is laid
-//! out is under no contract.
+//! Responses are read back as a client reads them, and where a frame's first fault stands is found by reading less of it. Each
+//! message and each part of one implements `Fields`, one file for each family of apis, and `Sheet` lays the fields out. The
+//! layout is under no contract.
 #![tactic(auto)]
 
 mod acls;

@@ -40,7 +40,7 @@ impl Fields for SaslHandshakeReply {
     }
 }
 
-/// Only the length of what is told to log in, since a password is in it.
+/// Only the length of the SASL bytes, since a password is in them.
 impl Fields for SaslAuthenticateRequest {
     /// Appends how many bytes are sent to log in, not the bytes: a password is among them.
     fn push_fields(&self, sheet: &mut Sheet) -> Result<(), AllocError> {
@@ -51,7 +51,7 @@ impl Fields for SaslAuthenticateRequest {
 }
 
 impl Fields for SaslAuthenticateReply {
-    /// Appends the response: whether the login failed, and why.
+    /// Appends the response: its error, the error's message, and the SASL bytes.
     fn push_fields(&self, sheet: &mut Sheet) -> Result<(), AllocError> {
         sheet.push_error("error_code", self.error)?;
         sheet.push_nullable("error_message", &self.message)?;

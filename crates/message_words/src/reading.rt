@@ -15,7 +15,7 @@ use msg_txn::EndTxnReply;
 use std::alloc::Global;
 use wire_types::{Bytes, Cursor, Malformed, ReadFault, Wire};
 
-/// Reads a response's header, and gives its correlation id: a flexible version (KIP-482) has tagged fields after that, which are
+/// Reads a response's header, and gives its correlation id. In a flexible version (KIP-482) tagged fields follow it, which are
 /// skipped.
 fn read_correlation(flexible: bool, cursor: &mut Cursor<'_>) -> Result<i32, ReadFault>
     ensures { Reads ((with_header_tags flexible int32).reading cursor.old) result cursor.new }

@@ -10,13 +10,13 @@ use wire_types::{Bytes, Cursor, Items, Malformed, ReadFault, read_varint_array};
 /// The bytes of a batch up to its length, that field included.
 const BATCH_START: usize = 12;
 
-/// The least that a batch tells of its length.
+/// The least length that a batch can state: that of its header after the length field.
 const LEAST_LENGTH: i32 = 49;
 
 /// The message format whose batches are read.
 const MAGIC: i8 = 2;
 
-/// A batch's bytes, and those after it.
+/// The bytes of a whole batch, and those after it.
 #[derive(Drop)]
 struct FirstBatch {
     batch: Bytes,
@@ -32,7 +32,7 @@ impl Fields for Header {
 }
 
 impl Fields for RecordAt {
-    /// Appends a record: its offset, its timestamp, its key, its value and its headers.
+    /// Appends a record: its offset, its timestamp delta, its key, its value and its headers.
     fn push_fields(&self, sheet: &mut Sheet) -> Result<(), AllocError> {
         sheet.push("offset", self.offset)?;
         sheet.push("timestamp_delta", self.rec.timestamp_delta)?;
@@ -42,7 +42,8 @@ impl Fields for RecordAt {
     }
 }
 
-/// Reads the header of a record batch (message format version 2), from its base offset to its record count.
+/// Reads the header of a record batch (message format version 2), from its base offset to its record count, and checks none of
+/// it. The error is `Short`.
 fn read_header(cursor: &mut Cursor<'_>) -> Result<BatchHeader, Malformed> {
     let base_offset = cursor.read_i64()?;
     let batch_length = cursor.read_i32()?;
@@ -74,8 +75,8 @@ fn read_header(cursor: &mut Cursor<'_>) -> Result<BatchHeader, Malformed> {
     })
 }
 
-/// A batch's attributes as a number, and a word for each one that is set: transactional, control, log_append_time, its
-/// compression.
+/// A batch's attributes as a number, and a word for each one that is set: `transactional`, `control`, `log_append_time`, and the
+/// codec.
 fn attributes_text(alloc: Global, header: &BatchHeader) -> Result<String, AllocError> {
     let number = header.attributes;
     let mut text = format!(in alloc; "{number}")?;
@@ -95,10 +96,10 @@ fn attributes_text(alloc: Global, header: &BatchHeader) -> Result<String, AllocE
     Ok(text)
 }
 
-/// The fields before the records, but those that only tell how the batch is read.
+/// The fields before the records, but those that only say how the batch is read.
 impl Fields for BatchHeader {
-    /// Appends a batch header's fields. The lengths, the checksum and the like, which only tell how a batch is read, are left
-    /// out.
+    /// Appends a batch header's fields. The batch length, the magic, the checksum and the record count, which only say how a
+    /// batch is read, are left out.
     fn push_fields(&self, sheet: &mut Sheet) -> Result<(), AllocError> {
         let attributes = attributes_text(sheet.alloc(), self)?;
         sheet.push("base_offset", self.base_offset)?;
@@ -113,8 +114,8 @@ impl Fields for BatchHeader {
     }
 }
 
-/// Reads the record of a control batch, and gives the type in its key: 0 for an abort, 1 for a commit. The fault says what is
-/// malformed, or that an allocation failed.
+/// Reads the record of a control batch to the end of the bytes, and gives the type in its key: 0 for an abort, 1 for a commit.
+/// The fault says what is malformed, or that an allocation failed.
 fn read_marker(alloc: Global, cursor: &mut Cursor<'_>) -> Result<i16, ReadFault> {
     cursor.read_varint_count()?;
     cursor.read_i8()?;
@@ -140,7 +141,7 @@ fn push_outcome(sheet: &mut Sheet, kind: i16) -> Result<(), AllocError> {
     }
 }
 
-/// Appends a field `records` that says why so many bytes of records can't be read.
+/// Appends a field `records` that says why `count` bytes of records can't be read; `why` stands there raw.
 fn push_unread<D: Display + Drop>(
     sheet: &mut Sheet,
     count: usize,
@@ -150,7 +151,8 @@ fn push_unread<D: Display + Drop>(
     sheet.push("records", text)
 }
 
-/// Appends the record of a control batch, the marker that ends a transaction, or why it can't be read.
+/// Appends the field `records` of a control batch: the marker that ends a transaction, or why it can't be read. `cursor` stands
+/// after the batch's header.
 fn push_marker(
     sheet: &mut Sheet,
     header: &BatchHeader,
@@ -171,7 +173,8 @@ fn push_marker(
     Ok(())
 }
 
-/// Appends the records of a batch that is no control batch, or why the `count` bytes after its header can't be read.
+/// Appends the field `records` of a batch that is no control batch: its records, or why the `count` bytes after its header can't
+/// be read.
 fn push_data(sheet: &mut Sheet, batch: &Bytes, count: usize) -> Result<(), AllocError> {
     match Batch::check(batch.clone()?, u32::MAX) {
         Ok(batch) => {
@@ -186,7 +189,8 @@ fn push_data(sheet: &mut Sheet, batch: &Bytes, count: usize) -> Result<(), Alloc
     }
 }
 
-/// Appends a record batch: the fields of its header, and its records.
+/// Appends a record batch: the fields of its header and its records, or why they can't be read; or else a line that says why the
+/// bytes are no batch. The records of a compressed batch can't be read.
 fn push_batch(sheet: &mut Sheet, batch: &Bytes) -> Result<(), AllocError> {
     let mut cursor = Cursor::over(batch);
     let Ok(header) = read_header(&mut cursor) else {
@@ -210,7 +214,8 @@ fn push_no_batch(sheet: &mut Sheet, bytes: &Bytes, fault: BatchFault) -> Result<
     sheet.push_line(line.as_str())
 }
 
-/// How many bytes the first of these batches has by its length field; `None` where that is too small, or fewer bytes are left.
+/// How many bytes the first of these batches has by its length field, that field and the base offset included; `None` where the
+/// length is too small for a batch header, or fewer bytes are left.
 fn first_length(bytes: &Bytes) -> Option<usize> {
     let mut cursor = Cursor::over(bytes);
     cursor.read_i64().ok()?;
@@ -222,7 +227,7 @@ fn first_length(bytes: &Bytes) -> Option<usize> {
     if end <= bytes.len() { Some(end) } else { None }
 }
 
-/// Cuts off the first batch; `None` where the bytes begin with none.
+/// Cuts off the first batch, by its length field; `None` where the bytes begin with no whole batch.
 fn split_first(bytes: &Bytes) -> Result<Option<FirstBatch>, AllocError> {
     let Some(end) = first_length(bytes) else {
         return Ok(None);
@@ -234,7 +239,8 @@ fn split_first(bytes: &Bytes) -> Result<Option<FirstBatch>, AllocError> {
     }))
 }
 
-/// Appends an entry for the first batch, and gives the bytes after it: none, if it isn't whole.
+/// Appends an entry for the first batch, and gives the bytes after it. Where the bytes begin with no whole batch, the entry says
+/// so, and no bytes are given.
 fn push_first(sheet: &mut Sheet, bytes: &Bytes) -> Result<Bytes, AllocError> {
     sheet.begin_entry();
     let rest = match split_first(bytes)? {
@@ -251,7 +257,8 @@ fn push_first(sheet: &mut Sheet, bytes: &Bytes) -> Result<Bytes, AllocError> {
     Ok(rest)
 }
 
-/// Appends the field `records`: an entry for each record batch, with its records.
+/// Appends the field `records`: an entry for each record batch, with its records. Where the bytes after a batch are no whole
+/// batch, a last entry says so.
 pub(crate) fn push_records(sheet: &mut Sheet, records: &Bytes) -> Result<(), AllocError> {
     if records.is_empty() {
         return sheet.push("records", "[]");

@@ -4,9 +4,10 @@ use crate::sheet::{Fields, Sheet};
 use msg_admin::Reply;
 use std::alloc::AllocError;
 
-/// A reply that isn't sent has none.
+/// The reply to a tick or a mark has no fields.
 impl Fields for Reply {
-    /// Appends the fields of the body that the reply has by its api.
+    /// Appends the fields of the body that the reply has by its api. The reply to a Produce with acks 0, which isn't sent, has
+    /// its fields too; that to a tick or a mark has none.
     fn push_fields(&self, sheet: &mut Sheet) -> Result<(), AllocError> {
         match self {
             Reply::Produce(body) => body.push_fields(sheet),
@@ -37,7 +38,8 @@ impl Fields for Reply {
     }
 }
 
-/// Appends the fields of a reply's body, by their names in the protocol guide. A reply that isn't sent has none.
+/// Appends the fields of a reply's body, by their names in the protocol guide: also those of the reply to a Produce with acks 0,
+/// which isn't sent. The reply to a tick or a mark has none.
 pub fn push_reply(sheet: &mut Sheet, reply: &Reply) -> Result<(), AllocError> {
     reply.push_fields(sheet)
 }

@@ -34,7 +34,7 @@ impl Fields for Request {
     }
 }
 
-/// Appends the fields of a request: its correlation id, the client's id, and those of its body.
+/// Appends the fields of a request: its correlation id, the client id, and those of its body.
 pub fn push_request(
     sheet: &mut Sheet,
     header: &Header,

@@ -11,22 +11,22 @@ use wire_types::{Bytes, Cursor, Malformed, ReadFault};
 /// The bytes of a frame's size field.
 const SIZE_FIELD: usize = 4;
 
-/// Appends a field `answer` that says why no answer is shown.
+/// Appends a field `answer` that says, in the words `why`, that no answer is shown.
 pub fn push_no_answer(sheet: &mut Sheet, why: &str) -> Result<(), AllocError> {
     sheet.push("answer", why)
 }
 
-/// Appends that nothing is sent as an answer, as to a Produce with acks 0.
+/// Appends a field `answer` that says that nothing is sent, as after a Produce with acks 0.
 pub fn push_silence(sheet: &mut Sheet) -> Result<(), AllocError> {
     push_no_answer(sheet, "none, nothing is sent")
 }
 
-/// Appends that the connection is closed, and nothing is answered.
+/// Appends a field `answer` that says that the connection is closed without an answer.
 pub fn push_closed(sheet: &mut Sheet) -> Result<(), AllocError> {
     push_no_answer(sheet, "none, the connection is closed")
 }
 
-/// Appends a reply as the field `answer`. Its correlation id is shown only where it isn't the one that was asked with.
+/// Appends a reply as the field `answer`. Its correlation id is shown only where it isn't `asked`, that of the request.
 pub fn push_sent_reply(
     sheet: &mut Sheet,
     asked: i32,
@@ -42,8 +42,9 @@ pub fn push_sent_reply(
     Ok(())
 }
 
-/// What a frame says of the answer to it: the api in its version, and the correlation id. `None` where the api isn't served, or
-/// the frame is too short. An ApiVersions in a version that isn't served is answered in the last one that is.
+/// Which answer a frame, without its size field, asks for: the api in its version, and the correlation id. `None` where the api
+/// isn't served in that version, or the frame is too short. An ApiVersions in a version that isn't served is answered in the last
+/// one that is.
 fn asked_of(frame: &Bytes) -> Option<(Api, i32)> {
     if let Some(correlation) = unsupported_versions(frame) {
         return Some((Api::in_last_version(ApiKey::ApiVersions), correlation));
@@ -55,7 +56,7 @@ fn asked_of(frame: &Bytes) -> Option<(Api, i32)> {
     Some((api, cursor.read_i32().ok()?))
 }
 
-/// The bytes after the size field; `None` where that doesn't say how many they are.
+/// The bytes after the size field; `None` where that isn't whole, or isn't the number of bytes after it.
 fn after_size(response: &Bytes) -> Result<Option<Bytes>, AllocError> {
     let mut cursor = Cursor::over(response);
     match cursor.read_u32() {
@@ -69,7 +70,7 @@ fn after_size(response: &Bytes) -> Result<Option<Bytes>, AllocError> {
     Ok(Some(response.slice(SIZE_FIELD.min(response.len())..response.len())?))
 }
 
-/// A sentence that says why so many bytes are no response of an api.
+/// A sentence that says why `count` bytes are no response of an api.
 fn unread_text(
     alloc: Global,
     api: Api,
@@ -81,7 +82,8 @@ fn unread_text(
     format!(in alloc; "{count} bytes that are no response of {name} version {version}: {fault}")
 }
 
-/// Appends the response to a request's frame, or why it can't be read. Both are given with their size fields.
+/// Appends the response to a request as the field `answer`, or why it can't be read. `frame` is the request's frame without its
+/// size field, `response` has its own in front.
 pub fn push_response(sheet: &mut Sheet, frame: &Bytes, response: &Bytes) -> Result<(), AllocError> {
     let alloc = sheet.alloc();
     let Some((api, asked)) = asked_of(frame) else {
@@ -103,8 +105,8 @@ pub fn push_response(sheet: &mut Sheet, frame: &Bytes, response: &Bytes) -> Resu
     }
 }
 
-/// Appends the answer to a frame that asks ApiVersions in a version that isn't served: UNSUPPORTED_VERSION, and which versions of
-/// it are (KIP-511). It has this correlation id.
+/// Appends the answer to a frame that asks ApiVersions in a version that isn't served, under this correlation id:
+/// UNSUPPORTED_VERSION, and which versions of ApiVersions are served (KIP-511). `frame` stands without its size field.
 pub fn push_served_versions(
     sheet: &mut Sheet,
     frame: &Bytes,

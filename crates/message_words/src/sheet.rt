@@ -1,4 +1,4 @@
-//! Fields, one on a line, indented as they stand within one another.
+//! Fields, one on a line, each indented by how many others it stands within.
 
 use crate::names::error_name;
 use std::alloc::{AllocError, Global};
@@ -12,11 +12,12 @@ pub(crate) trait Fields {
     fn push_fields(&self, sheet: &mut Sheet) -> Result<(), AllocError>;
 }
 
-/// A text of lines, and where the next one begins.
+/// A text of lines, and how far the next line is indented.
 #[derive(Drop)]
 pub struct Sheet {
     alloc: Global,
     text: String,
+    /// By how many steps, of two blanks each, the next line is indented.
     depth: usize,
     /// Whether the next line is the first one of an entry.
     is_entry: bool,
@@ -43,31 +44,31 @@ impl Sheet {
         self.alloc
     }
 
-    /// Forgets the lines; what was begun stays begun.
+    /// Removes the lines. The indentation stays: what was begun is still to be ended.
     pub fn clear(&mut self) {
         self.text.clear();
     }
 
-    /// Begins an entry of a list: the first line that follows gets a dash, and all are indented by a step more, up to `end`.
+    /// Begins an entry of a list: the next line gets a dash, and all lines are indented by a step more until `end`.
     pub(crate) fn begin_entry(&mut self) {
         self.depth = self.depth.saturating_add(1);
         self.is_entry = true;
     }
 
-    /// Appends a line, and indents the lines that follow by a step more, up to `end`.
+    /// Appends a line, and indents the lines that follow by a step more, until the caller calls `end`.
     pub fn begin(&mut self, line: &str) -> Result<(), AllocError> {
         self.push_line(line)?;
         self.depth = self.depth.saturating_add(1);
         Ok(())
     }
 
-    /// Ends what `begin` or `begin_entry` began last.
+    /// Ends what `begin` or `begin_entry` began last: takes back one step of indentation, if there is any.
     pub fn end(&mut self) {
         self.depth = self.depth.saturating_sub(1);
         self.is_entry = false;
     }
 
-    /// Appends the blanks of so many steps of indentation, two for each.
+    /// Appends so many steps of indentation, two blanks for each.
     fn push_steps(&mut self, count: usize) -> Result<(), AllocError> {
         for _ in 0..count {
             self.text.push_str("  ")?;
@@ -86,7 +87,7 @@ impl Sheet {
         self.push_steps(depth)
     }
 
-    /// Appends a line, indented as what was begun says.
+    /// Appends a line at the present indentation, and a line feed. The text stands there raw, so it should hold no line feed.
     pub fn push_line(&mut self, line: &str) -> Result<(), AllocError> {
         self.push_margin()?;
         self.text.push_str(line)?;
@@ -98,13 +99,13 @@ impl Sheet {
         self.text.push_str("\n")
     }
 
-    /// Appends a line with a field's name and its value.
+    /// Appends a line with a field's name and its value, both raw.
     pub fn push<D: Display + Drop>(&mut self, field: &str, value: D) -> Result<(), AllocError> {
         let line = format!(in self.alloc; "{field} {value}")?;
         self.push_line(line.as_str())
     }
 
-    /// Appends a field that is a number, and the name of what that stands for; the number alone where it has no name.
+    /// Appends a field that is a number, and the name of what the number stands for; the number alone where `name` is `None`.
     pub fn push_coded<D: Display + Drop>(
         &mut self,
         field: &str,
@@ -123,14 +124,14 @@ impl Sheet {
         self.push_coded(field, error.number(), Some(error_name(error)))
     }
 
-    /// Appends a text in double quotes, with escapes.
+    /// Appends a field with a text in double quotes, with escapes.
     pub(crate) fn push_text(&mut self, field: &str, value: &Text) -> Result<(), AllocError> {
         let text = value.as_str();
         let line = format!(in self.alloc; "{field} {text:?}")?;
         self.push_line(line.as_str())
     }
 
-    /// Appends a text in double quotes, or `null`.
+    /// Appends a field with a text in double quotes, with escapes, or `null`.
     pub(crate) fn push_nullable(
         &mut self,
         field: &str,
@@ -142,7 +143,8 @@ impl Sheet {
         }
     }
 
-    /// Appends bytes as a text in double quotes, or in hexadecimal digits where they are no text that can be printed.
+    /// Appends a field with bytes: as a text in double quotes, with escapes, or after the word `hex` in hexadecimal digits where
+    /// they are no printable text.
     pub fn push_bytes(&mut self, field: &str, bytes: &[u8]) -> Result<(), AllocError> {
         match printable(bytes) {
             Some(text) => {
@@ -169,13 +171,13 @@ impl Sheet {
         }
     }
 
-    /// Appends a list of numbers on one line.
+    /// Appends a field with a list of numbers, in brackets on one line.
     pub(crate) fn push_numbers(&mut self, field: &str, numbers: &[i32]) -> Result<(), AllocError> {
         let line = format!(in self.alloc; "{field} {numbers:?}")?;
         self.push_line(line.as_str())
     }
 
-    /// Appends a list of texts on one line.
+    /// Appends a field with a list of texts in double quotes, with escapes, in brackets on one line.
     pub(crate) fn push_texts(&mut self, field: &str, texts: &[Text]) -> Result<(), AllocError> {
         let mut list = String::new(self.alloc);
         for text in texts {
@@ -187,7 +189,7 @@ impl Sheet {
         self.push_line(line.as_str())
     }
 
-    /// Appends a list, with an entry for each of its items.
+    /// Appends a field with a list, and below it an entry for each of its items; `[]` on the same line for an empty list.
     pub(crate) fn push_list<T: Fields>(
         &mut self,
         field: &str,
@@ -206,7 +208,7 @@ impl Sheet {
         Ok(())
     }
 
-    /// Appends a list, with an entry for each of its items, or `null`.
+    /// As `push_list`, or a field with `null`.
     pub(crate) fn push_nullable_list<T: Fields>(
         &mut self,
         field: &str,
@@ -227,7 +229,8 @@ fn is_control(byte: u8) -> bool {
     }
 }
 
-/// The bytes as a text, if they are UTF-8 without control characters but tab, line feed and carriage return.
+/// The bytes as a text; `None` where they aren't UTF-8, or hold a control character other than tab, line feed and carriage
+/// return.
 fn printable(bytes: &[u8]) -> Option<&str> {
     if bytes.iter().any(|byte| is_control(*byte)) {
         return None;

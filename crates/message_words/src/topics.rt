@@ -4,7 +4,7 @@ use crate::sheet::{Fields, Sheet};
 use std::alloc::AllocError;
 use wire_types::Topic;
 
-/// What an api calls its topics, a topic's name and a topic's partitions.
+/// What the protocol guide calls, in an api's message, the list of topics, a topic's name and a topic's list of partitions.
 #[derive(Clone, Copy)]
 pub(crate) struct TopicNames {
     pub list: &'static str,
@@ -13,7 +13,7 @@ pub(crate) struct TopicNames {
 }
 
 impl TopicNames {
-    /// What most apis call them.
+    /// The names that most apis have.
     pub(crate) const USUAL: TopicNames = TopicNames {
         list: "topics",
         name: "name",
@@ -41,7 +41,7 @@ pub(crate) fn push_topics<P: Fields>(
     Ok(())
 }
 
-/// Appends a list of topics, and in each of them the numbers of its partitions.
+/// Appends a list of topics, and in each of them the list of its partitions' indexes.
 pub(crate) fn push_numbered_topics(
     sheet: &mut Sheet,
     names: TopicNames,

@@ -21,7 +21,7 @@ impl Fields for FindCoordinatorRequest {
 }
 
 impl Fields for FindCoordinatorReply {
-    /// Appends the response: its error, and the broker that is the coordinator.
+    /// Appends the response: its throttle time, its error and message, and the broker that is the coordinator.
     fn push_fields(&self, sheet: &mut Sheet) -> Result<(), AllocError> {
         sheet.push("throttle_time_ms", self.throttle)?;
         sheet.push_error("error_code", self.error)?;
@@ -33,7 +33,7 @@ impl Fields for FindCoordinatorReply {
 }
 
 impl Fields for InitProducerIdRequest {
-    /// Appends the request: the transactional id, or `null`, and the timeout of its transactions.
+    /// Appends the request: the transactional id, or `null`, and the timeout of its transactions in milliseconds.
     fn push_fields(&self, sheet: &mut Sheet) -> Result<(), AllocError> {
         sheet.push_nullable("transactional_id", &self.transactional_id)?;
         sheet.push("transaction_timeout_ms", self.timeout)
@@ -41,7 +41,7 @@ impl Fields for InitProducerIdRequest {
 }
 
 impl Fields for InitProducerIdReply {
-    /// Appends the response: its error, and the producer's id and epoch.
+    /// Appends the response: its throttle time, its error, and the producer's id and epoch.
     fn push_fields(&self, sheet: &mut Sheet) -> Result<(), AllocError> {
         sheet.push("throttle_time_ms", self.throttle)?;
         sheet.push_error("error_code", self.error)?;
@@ -51,7 +51,7 @@ impl Fields for InitProducerIdReply {
 }
 
 impl Fields for AddPartitionsToTxnRequest {
-    /// Appends the request: the producer, and the partitions that its transaction takes in.
+    /// Appends the request: the transactional id, the producer, and the partitions that its transaction takes in.
     fn push_fields(&self, sheet: &mut Sheet) -> Result<(), AllocError> {
         let names = TopicNames {
             list: "v3_and_below_topics",
@@ -65,7 +65,7 @@ impl Fields for AddPartitionsToTxnRequest {
 }
 
 impl Fields for AddedPartition {
-    /// Appends a partition of an AddPartitionsToTxn response: its error.
+    /// Appends a partition of an AddPartitionsToTxn response: its index and its error.
     fn push_fields(&self, sheet: &mut Sheet) -> Result<(), AllocError> {
         sheet.push("partition_index", self.index)?;
         sheet.push_error("partition_error_code", self.error)
@@ -73,7 +73,7 @@ impl Fields for AddedPartition {
 }
 
 impl Fields for AddPartitionsToTxnReply {
-    /// Appends the response: the result of each partition.
+    /// Appends the response: its throttle time, and the result of each partition.
     fn push_fields(&self, sheet: &mut Sheet) -> Result<(), AllocError> {
         let names = TopicNames {
             list: "results_by_topic_v3_and_below",
@@ -86,7 +86,7 @@ impl Fields for AddPartitionsToTxnReply {
 }
 
 impl Fields for AddOffsetsToTxnRequest {
-    /// Appends the request: the producer, and the group whose offsets its transaction takes in.
+    /// Appends the request: the transactional id, the producer, and the group whose offsets its transaction takes in.
     fn push_fields(&self, sheet: &mut Sheet) -> Result<(), AllocError> {
         sheet.push_text("transactional_id", &self.transactional_id)?;
         sheet.push("producer_id", self.producer)?;
@@ -96,7 +96,7 @@ impl Fields for AddOffsetsToTxnRequest {
 }
 
 impl Fields for AddOffsetsToTxnReply {
-    /// Appends the response: its error.
+    /// Appends the response: its throttle time and its error.
     fn push_fields(&self, sheet: &mut Sheet) -> Result<(), AllocError> {
         sheet.push("throttle_time_ms", self.throttle)?;
         sheet.push_error("error_code", self.error)
@@ -104,7 +104,7 @@ impl Fields for AddOffsetsToTxnReply {
 }
 
 impl Fields for EndTxnRequest {
-    /// Appends the request: the producer, and whether its transaction commits or aborts.
+    /// Appends the request: the transactional id, the producer, and whether its transaction commits or aborts.
     fn push_fields(&self, sheet: &mut Sheet) -> Result<(), AllocError> {
         let asked = self.asked();
         sheet.push_text("transactional_id", &asked.transactional_id)?;
@@ -115,7 +115,7 @@ impl Fields for EndTxnRequest {
 }
 
 impl Fields for Ended {
-    /// Appends an EndTxn response of version 0 to 2: its error.
+    /// Appends an EndTxn response of version 0 to 2: its throttle time and its error.
     fn push_fields(&self, sheet: &mut Sheet) -> Result<(), AllocError> {
         sheet.push("throttle_time_ms", self.throttle)?;
         sheet.push_error("error_code", self.error)
@@ -123,7 +123,7 @@ impl Fields for Ended {
 }
 
 impl Fields for FlexibleEnded {
-    /// Appends an EndTxn response of version 3 or 4: its error.
+    /// Appends an EndTxn response of version 3 or 4: its throttle time and its error.
     fn push_fields(&self, sheet: &mut Sheet) -> Result<(), AllocError> {
         sheet.push("throttle_time_ms", self.throttle)?;
         sheet.push_error("error_code", self.error)
@@ -131,7 +131,8 @@ impl Fields for FlexibleEnded {
 }
 
 impl Fields for EndedWithPair {
-    /// Appends an EndTxn response of version 5: its error, and the producer's id and epoch to go on with (KIP-890).
+    /// Appends an EndTxn response of version 5: its throttle time, its error, and the producer's id and epoch to go on with
+    /// (KIP-890).
     fn push_fields(&self, sheet: &mut Sheet) -> Result<(), AllocError> {
         sheet.push("throttle_time_ms", self.throttle)?;
         sheet.push_error("error_code", self.error)?;
@@ -155,7 +156,8 @@ impl Fields for EndTxnReply {
 }
 
 impl Fields for OffsetToStage {
-    /// Appends a partition of a TxnOffsetCommit request, and the offset that is committed with the transaction.
+    /// Appends a partition of a TxnOffsetCommit request: its index, and the offset that is committed with the transaction, its
+    /// leader epoch and metadata.
     fn push_fields(&self, sheet: &mut Sheet) -> Result<(), AllocError> {
         sheet.push("partition_index", self.index)?;
         sheet.push("committed_offset", self.offset)?;
@@ -165,7 +167,8 @@ impl Fields for OffsetToStage {
 }
 
 impl Fields for TxnOffsetCommitRequest {
-    /// Appends the request: the producer, the group and its member, and the offset for each partition.
+    /// Appends the request: the transactional id, the group, the producer, the generation and the member, and the offset for each
+    /// partition.
     fn push_fields(&self, sheet: &mut Sheet) -> Result<(), AllocError> {
         sheet.push_text("transactional_id", &self.transactional_id)?;
         sheet.push_text("group_id", &self.group)?;
@@ -179,7 +182,7 @@ impl Fields for TxnOffsetCommitRequest {
 }
 
 impl Fields for StagedOffset {
-    /// Appends a partition of a TxnOffsetCommit response: its error.
+    /// Appends a partition of a TxnOffsetCommit response: its index and its error.
     fn push_fields(&self, sheet: &mut Sheet) -> Result<(), AllocError> {
         sheet.push("partition_index", self.index)?;
         sheet.push_error("error_code", self.error)
@@ -187,7 +190,7 @@ impl Fields for StagedOffset {
 }
 
 impl Fields for TxnOffsetCommitReply {
-    /// Appends the response: the result of each partition.
+    /// Appends the response: its throttle time, and the result of each partition.
     fn push_fields(&self, sheet: &mut Sheet) -> Result<(), AllocError> {
         sheet.push("throttle_time_ms", self.throttle)?;
         push_topics(sheet, TopicNames::USUAL, self.topics.as_slice())

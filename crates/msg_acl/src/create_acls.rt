@@ -13,7 +13,8 @@ pub struct CreateAclsRequest {
     pub creations: Items<BindingEntry>,
 }
 
-/// What became of one binding of the request: error code 0 where it was created, else the error with its message.
+/// What became of one binding of the request: error code 0 where it was created or an equal one stood already, else an error.
+/// This broker sends no message (null).
 #[derive(Drop, PartialEq, Eq)]
 pub struct CreatedAcl {
     pub error: ErrorCode,

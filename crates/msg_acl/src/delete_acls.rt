@@ -7,13 +7,13 @@ use wire_types::{
     deduct_nullable, read_array, write_array, write_i32, write_nullable,
 };
 
-/// Asks for all bindings (ACLs) that match one of the filters to be deleted.
+/// Asks for all bindings (ACLs) that match any of the filters to be deleted.
 #[derive(Drop, PartialEq, Eq)]
 pub struct DeleteAclsRequest {
     pub filters: Items<FilterEntry>,
 }
 
-/// A binding that matched the filter: error code 0 where it was deleted, else the error with its message.
+/// A binding that matched the filter and was deleted. This broker sends error code 0 and no message (null) with each.
 #[derive(Drop, PartialEq, Eq)]
 pub struct DeletedAcl {
     pub error: ErrorCode,
@@ -21,7 +21,8 @@ pub struct DeletedAcl {
     pub binding: BindingEntry,
 }
 
-/// What became of one filter: an error with its message, or the bindings that it matched and that were deleted.
+/// What became of one filter: an error without bindings, or the bindings that it matched and that were deleted. This broker sends
+/// no message (null).
 #[derive(Drop, PartialEq, Eq)]
 pub struct DeletedAcls {
     pub error: ErrorCode,

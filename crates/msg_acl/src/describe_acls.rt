@@ -1,4 +1,4 @@
-//! DescribeAcls, version 1: the bindings that a filter picks.
+//! DescribeAcls, version 1: the bindings that match a filter.
 
 use crate::entries::FilterEntry;
 use std::alloc::Global;
@@ -33,7 +33,7 @@ pub struct DescribedResource {
     pub acls: Items<DescribedAcl>,
 }
 
-/// The bindings that match the filter, by resource pattern; or an error with its message.
+/// The bindings that match the filter, by resource pattern; or an error. This broker sends no message (null).
 #[derive(Drop, PartialEq, Eq)]
 pub struct DescribeAclsReply {
     pub throttle: i32,

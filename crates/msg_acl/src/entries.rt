@@ -6,7 +6,8 @@ use wire_types::{
     write_nullable, write_string,
 };
 
-/// A binding (ACL) as it stands in a message: the words are still the protocol's numbers, of which some may be unknown.
+/// A binding (ACL) as it stands in a message: kind (resource type), pattern type, operation and permission are still the
+/// protocol's numbers, of which some may be unknown. `acl_binding` checks them.
 #[derive(Clone, Drop, PartialEq, Eq)]
 pub struct BindingEntry {
     pub kind: i8,
@@ -18,7 +19,8 @@ pub struct BindingEntry {
     pub permission: i8,
 }
 
-/// A filter of bindings as it stands in a message: the words are still the protocol's numbers. A null text matches any.
+/// A filter of bindings as it stands in a message: kind, pattern type, operation and permission are still the protocol's numbers,
+/// where 1 is ANY. A null text matches any.
 #[derive(Drop, PartialEq, Eq)]
 pub struct FilterEntry {
     pub kind: i8,

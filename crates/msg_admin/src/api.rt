@@ -7,7 +7,7 @@ ghost use Rattle.msg_admin.specs.Api.{is_flexible, api_at, api_if_served, in_las
 use crate::api_key::ApiKey;
 use std::marker::Model;
 
-/// An api in a version in which it is served.
+/// An API in a version in which it is served; no other pair can be made.
 #[derive(Clone, Copy, Debug, PartialEq, Eq)]
 pub struct Api {
     pub(crate) key: ApiKey,
@@ -28,7 +28,7 @@ impl Model for Api {
 }
 
 impl Api {
-    /// The api with this key on the wire, in this version. `None` if it isn't served, or not in this version.
+    /// The API with this key on the wire, in this version. None if it isn't served, or not in this version.
     #[tactic(auto, unfolding(crate::specs::Api::api_at))]
     pub fn of(number: i16, version: i16) -> Option<Api>
         ensures { result ≡ api_at number version }
@@ -39,7 +39,7 @@ impl Api {
         }
     }
 
-    /// The api in this version, `None` if it isn't served in it.
+    /// The API in this version; None if it isn't served in it.
     pub fn in_version(key: ApiKey, version: i16) -> Option<Api>
         ensures { result ≡ api_if_served key version }
     {
@@ -50,7 +50,7 @@ impl Api {
         }
     }
 
-    /// The api in the last version that is served.
+    /// The API in the last version that is served.
     pub fn in_last_version(key: ApiKey) -> Api
         ensures { result ≡ in_last_version key }
     {
@@ -75,7 +75,8 @@ impl Api {
         self.version
     }
 
-    /// Whether the version is flexible (KIP-482): its headers end with tagged fields.
+    /// Whether the version is flexible (KIP-482): its headers end with tagged fields. ApiVersions, whose response header never
+    /// has them, is served in version 0 only.
     #[tactic(auto, unfolding(crate::specs::Api::is_flexible))]
     pub fn is_flexible(self) -> bool
         ensures { result ≡ is_flexible self }

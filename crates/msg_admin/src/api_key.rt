@@ -1,11 +1,11 @@
-//! The apis that are served, and the table of them: the number of each, and its versions.
+//! The APIs that are served, and the table of them: the key of each on the wire, and its versions.
 
 ghost use Rattle.std.specs.Prelude.{◌≡◌};
 ghost use Rattle.std.specs.List.{find};
 ghost use Rattle.std.specs.Ordering.{int_eq};
 ghost use Rattle.msg_admin.specs.ApiKey.{row, served_api, number_of, is_served, key_at};
 
-/// What a request may ask for, whatever the version.
+/// The API that a request is for, whatever the version, under Kafka's name.
 #[derive(Clone, Copy, Debug, PartialEq, Eq)]
 pub enum ApiKey {
     Produce,
@@ -32,19 +32,19 @@ pub enum ApiKey {
     SaslAuthenticate,
 }
 
-/// A row of the table.
+/// A row of the table of served APIs.
 #[derive(Clone, Copy, Debug, PartialEq, Eq)]
 pub struct ServedApi {
-    /// The number under which a request names the api.
+    /// The API key on the wire.
     pub number: i16,
     /// The first version that is served, and the last; so is each in between.
     pub first: i16,
     pub last: i16,
-    /// The version from which on the api's versions are flexible ones, if there is one up to the last.
+    /// The first flexible version (KIP-482), or None if none up to the last served one is. It may be below the first served one.
     pub flexible_from: Option<i16>,
 }
 
-/// A row of the table of served apis.
+/// A row of the table of served APIs.
 fn row(number: i16, first: i16, last: i16, flexible_from: Option<i16>) -> ServedApi
     ensures { result ≡ row number first last flexible_from }
 {
@@ -129,7 +129,7 @@ impl ApiKey {
         served.first <= version && version <= served.last
     }
 
-    /// The api with this key on the wire, `None` if none is served.
+    /// The API with this key on the wire; None if none is served.
     #[tactic(auto, unfolding(crate::specs::ApiKey::key_at, crate::specs::ApiKey::all_keys))]
     pub fn of(number: i16) -> Option<ApiKey>
         ensures { result ≡ key_at number }
@@ -138,7 +138,7 @@ impl ApiKey {
     }
 }
 
-/// The first of these apis that has this key on the wire.
+/// The first of these APIs that has this key on the wire, or None.
 fn first_numbered(keys: &[ApiKey], number: i16) -> Option<ApiKey>
     ensures { result ≡ find (λ key. int_eq (number_of key) number) keys.now }
 {

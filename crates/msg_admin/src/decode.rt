@@ -1,4 +1,4 @@
-//! What a frame is, decided in one place for all who read frames whole.
+//! What a frame is, decided in one place for all that read frames whole.
 
 ghost use Rattle.std.specs.Prelude.{◌≡◌, ℤ, length, IfOk};
 ghost use Rattle.msg_admin.specs.Decode.{frame_at, FitsWithin};
@@ -21,12 +21,11 @@ pub enum Frame {
     Request(Header, Request),
     /// ApiVersions in a version that isn't served, under this correlation id. It is answered all the same (KIP-511).
     OtherApiVersions(i32),
-    /// Neither: the first fault from left to right.
+    /// Neither of these: the first fault that is met from left to right.
     Malformed(Malformed),
 }
 
-/// Tells what a frame is: ApiVersions in a version that isn't served, a served request, or malformed bytes. `decode_frame`
-/// is its public form.
+/// Decides what a frame, given without its size field, is. `decode_frame` is its public form.
 fn decode(alloc: Global, frame: &Bytes) -> Result<Frame, AllocError>
     ensures exact { IfOk result (λ f. f ≡ frame_at frame.now) }
     ensures fits { IfOk result (FitsWithin (length frame.now)) }
@@ -41,8 +40,9 @@ fn decode(alloc: Global, frame: &Bytes) -> Result<Frame, AllocError>
     }
 }
 
-/// Decodes a frame, given without its size field: a served request with its header, ApiVersions in a version that isn't
-/// served, or malformed bytes. Byte fields of the request share the frame's bytes. An `AllocError` is an allocation failure.
+/// Decodes a frame, given without its size field: a served request with its header, ApiVersions in a version that isn't served,
+/// or malformed bytes, which are no error here. Byte fields of the request share the frame's bytes. The frame may be longer than
+/// `FRAME_LIMIT`. An error is an allocation failure.
 pub fn decode_frame(alloc: Global, frame: &Bytes) -> Result<Frame, AllocError>
     ensures exact { IfOk result (λ f. f ≡ frame_at frame.now) }
     // A request is read as one.

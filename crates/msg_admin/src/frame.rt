@@ -1,4 +1,4 @@
-//! A header and a body after their size.
+//! A header and a body as a frame, after their size.
 
 ghost use Rattle.std.specs.Prelude.{◌≡◌};
 ghost use Rattle.wire_types.specs.Combinators.{◌⨟◌};
@@ -12,8 +12,8 @@ use wire_types::{Bytes, Wire, WriteFault, write_i32};
 /// The greatest size that a frame's size field can tell: 2^31 - 1.
 const GREATEST: usize = 2_147_483_647;
 
-/// The frame of a header and a body, with its size field before them. `TooLong` if a part of it or the whole is longer than
-/// its size field can tell; `NoMemory` on an allocation failure.
+/// The frame of a header and a body: the size of all that follows in four bytes, the header, empty tagged fields where `flexible`
+/// is set, and the body. `TooLong` if a length or the size is too large for its field; `NoMemory` on an allocation failure.
 pub(crate) fn write_frame<H: Wire, B: Wire>(
     alloc: Global,
     flexible: bool,
@@ -33,8 +33,8 @@ pub(crate) fn write_frame<H: Wire, B: Wire>(
     Ok(Bytes::from_vec(out)?)
 }
 
-/// How many bytes a header and a body have, which is what the frame's size field tells. `None` if they have no frame, since
-/// they are too long.
+/// How many bytes a header, its empty tagged fields where `flexible` is set, and a body have, which is what the frame's size
+/// field holds; the field's own four aren't counted. None if a length in them or the size is too large for its field.
 fn frame_size<H: Wire, B: Wire>(flexible: bool, header: &H, body: &B) -> Option<usize>
     ensures { TellsSize (with_header_tags flexible H.grammar ⨟ B.grammar) (header.now, body.now)
         result }
@@ -45,7 +45,7 @@ fn frame_size<H: Wire, B: Wire>(flexible: bool, header: &H, body: &B) -> Option<
     }
 }
 
-/// How many of `budget` bytes a header and a body leave, `None` if these bytes don't suffice.
+/// How many of `budget` bytes are left after a header and a body. None if they need more, or can't be written.
 fn deduct_both<H: Wire, B: Wire>(
     flexible: bool,
     header: &H,
@@ -59,8 +59,7 @@ fn deduct_both<H: Wire, B: Wire>(
     body.deduct_from(budget)
 }
 
-/// The frame of a header alone, for a request whose body is empty, with its size field before it. `TooLong` if the client id
-/// is too long; `NoMemory` on an allocation failure.
+/// As `write_frame`, for a request whose body is empty.
 pub(crate) fn write_header_frame<H: Wire>(
     alloc: Global,
     flexible: bool,
@@ -77,8 +76,7 @@ pub(crate) fn write_header_frame<H: Wire>(
     Ok(Bytes::from_vec(out)?)
 }
 
-/// How many bytes a header has, which is what the size field of a frame with an empty body tells. `None` if the header is
-/// too long for a frame.
+/// As `frame_size`, for a header with an empty body.
 fn header_size<H: Wire>(flexible: bool, header: &H) -> Option<usize>
     ensures { TellsSize (with_header_tags flexible H.grammar) header.now result }
 {

@@ -1,4 +1,4 @@
-//! What stands before the body of a request or a response.
+//! The headers before the body of a request or a response.
 
 ghost use Rattle.std.specs.Prelude.{◌≡◌, Some};
 ghost use Rattle.wire_types.specs.Reading.{Reads};
@@ -25,7 +25,7 @@ impl Header {
     ghost use Rattle.msg_admin.specs.ApiKey.{number_of};
     ghost use Rattle.msg_admin.specs.Api.{api_at};
 
-    /// The header of a request to this api in its version.
+    /// The header of a request to this API in its version.
     pub fn new(api: Api, correlation: i32, client: Option<Text>) -> Header
         ensures fields { result ≡ record {
           key = number_of api.key;
@@ -85,8 +85,8 @@ pub(crate) fn least_header(flexible: bool) -> usize
     if flexible { 11 } else { 10 }
 }
 
-/// Reads the rest of a request's header, after key and version: the correlation id and the nullable client id. Tagged fields
-/// of a flexible header are skipped.
+/// Reads the rest of a request's header, after key and version: the correlation id and the nullable client id. Tagged fields are
+/// skipped where `flexible` is set; the client id is a NULLABLE_STRING in both forms.
 pub(crate) fn read_sender(
     alloc: Global,
     flexible: bool,
@@ -102,7 +102,8 @@ pub(crate) fn read_sender(
     Ok((correlation, client))
 }
 
-/// Appends a header of a request or of a response. Where the version is flexible, an empty list of tagged fields ends it.
+/// Appends a header of a request or of a response, which for a response is its correlation id. Where `flexible` is set, empty
+/// tagged fields end it. An error may leave a part of it in `out`.
 pub(crate) fn write_header<H: Wire>(
     out: &mut Vec<u8>,
     flexible: bool,
@@ -118,8 +119,8 @@ pub(crate) fn write_header<H: Wire>(
     Ok(())
 }
 
-/// How many of `budget` bytes a header leaves, with its empty tagged fields where the version is flexible. `None` if these
-/// bytes don't suffice.
+/// How many of `budget` bytes are left after a header, with its empty tagged fields where `flexible` is set. None if it needs
+/// more, or can't be written.
 pub(crate) fn deduct_header<H: Wire>(flexible: bool, header: &H, budget: usize) -> Option<usize>
     ensures { result ≡ (with_header_tags flexible H.grammar).left header.now budget }
 {

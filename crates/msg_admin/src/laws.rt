@@ -12,17 +12,18 @@ pub fn found_is_request()
     ensures { FoundIsRequest }
 {}
 
-/// Reading what was written of a request gives the same header and request.
+/// Reading what was written of a request, under a header of its API and version, gives the same header and request.
 pub fn written_is_read()
     ensures { WrittenIsRead }
 {}
 
-/// A request that was read from a frame within `FRAME_LIMIT` fits into such a frame when it is written.
+/// A request that is read from this frame, if the frame has at most `FRAME_LIMIT` bytes, fits into such a frame when it is
+/// written (`Request::fits`).
 pub fn read_fits(frame: &[u8])
     ensures { SpellsFitting frame.now }
 {}
 
-/// A request that fits within `FRAME_LIMIT` can be written after a header whose client id is null.
+/// A request that fits within `FRAME_LIMIT` (`Request::fits`) can be written after a header whose client id is null.
 pub fn fits_is_writable()
     ensures { FitsIsWritable }
 {}

@@ -27,12 +27,12 @@ use msg_txn::{
 use std::alloc::Global;
 use wire_types::{Boxed, Bytes, Wire, WriteFault};
 
-/// What an event is answered. Only an answer to a request is sent. The larger bodies stand in blocks of their own, so that a
-/// reply is small where it is kept.
+/// What an event is answered. Only the answers to requests are sent, and of these not `SilentProduce`. The larger bodies stand in
+/// blocks of their own, so that a reply is small where it is kept.
 #[derive(PartialEq, Eq)]
 pub enum Reply {
     Produce(ProduceReply),
-    /// What a Produce is answered that wants no answer: it is kept, and no bytes are sent.
+    /// The answer to a Produce with acks 0: it is kept, and no bytes are sent.
     SilentProduce(ProduceReply),
     Fetch(FetchReply),
     ListOffsets(ListOffsetsReply),
@@ -55,11 +55,11 @@ pub enum Reply {
     CreateAcls(CreateAclsReply),
     DeleteAcls(DeleteAclsReply),
     SaslAuthenticate(Boxed<SaslAuthenticateReply>),
-    /// A marker was written, and so many are still pending.
+    /// A transaction marker was written, and so many are still pending. It isn't sent.
     Marked { left: u64 },
-    /// No marker was pending.
+    /// No marker was pending. It isn't sent.
     Idle,
-    /// The moment was set, and so many markers are pending.
+    /// The time was set, and so many markers are pending. It isn't sent.
     Ticked { left: u64 },
 }
 
@@ -94,8 +94,8 @@ impl Drop for Reply {
     }
 }
 
-/// The whole frame of a response with this correlation id, with its size field; no bytes for a reply that isn't sent.
-/// `TooLong` if a frame can't hold it; `NoMemory` on an allocation failure.
+/// The whole frame of a response with this correlation id, with its size field; no bytes for a reply that isn't sent. `TooLong`
+/// if the frame is longer than its size field can hold, or a length in it than its field; `NoMemory` on an allocation failure.
 pub fn write_reply(alloc: Global, correlation: i32, reply: &Reply) -> Result<Bytes, WriteFault>
     ensures written { IfOk result (λ bytes. bytes ≡ response correlation reply.now) }
     ensures within { OnOk result (¬ IsTooLong correlation reply.now) }
@@ -106,7 +106,8 @@ pub fn write_reply(alloc: Global, correlation: i32, reply: &Reply) -> Result<Byt
     write_response(alloc, correlation, reply)
 }
 
-/// The whole frame of a response of this api, which is served in one form only (all but EndTxn).
+/// The whole frame of a response of this API with this body, in the API's last version. It is for all APIs but EndTxn, which are
+/// served in one version.
 fn write_as<B: Wire>(
     alloc: Global,
     key: ApiKey,

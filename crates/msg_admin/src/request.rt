@@ -28,10 +28,10 @@ use msg_txn::{
 use std::alloc::Global;
 use wire_types::{Boxed, Bytes, Cursor, Malformed, ReadFault, Wire, WriteFault, deduct};
 
-/// The greatest size that a request's frame may tell of itself.
+/// The greatest size of a request's frame in bytes, its size field not counted: 100 MiB, as Kafka's socket.request.max.bytes.
 pub const FRAME_LIMIT: usize = 104_857_600;
 
-/// What a client asks for. Each body stands in a block of its own, so that a request is small where it is kept or handed on.
+/// The body of a request. Each stands in a block of its own, so that a request is small where it is kept or handed on.
 #[derive(PartialEq, Eq)]
 pub enum Request {
     Produce(Boxed<ProduceRequest>),
@@ -98,7 +98,8 @@ fn ending_api(request: &EndTxnRequest) -> Api
     }
 }
 
-/// How many of `budget` bytes the body of an EndTxn request leaves in its version. `None` if these bytes don't suffice.
+/// How many of `budget` bytes are left after the body of an EndTxn request in its version. None if it needs more, or can't be
+/// written.
 #[tactic(auto, unfolding(crate::specs::Bodies::request_body))]
 fn deduct_ending(request: &EndTxnRequest, budget: usize) -> Option<usize>
     ensures { result ≡ (request_body (api_of (Request.EndTxn request.now))).left
@@ -115,7 +116,7 @@ fn deduct_ending(request: &EndTxnRequest, budget: usize) -> Option<usize>
 }
 
 impl Request {
-    /// The api that is asked, in the version of the request.
+    /// The API and the version that the request is for.
     pub fn api(&self) -> Api
         ensures { result ≡ api_of self.now }
     {
@@ -153,8 +154,7 @@ impl Request {
         self.deduct_from(FRAME_LIMIT - header).is_some()
     }
 
-    /// How many of `budget` bytes the request's body leaves. `None` if these bytes don't suffice or the body can't be
-    /// written.
+    /// How many of `budget` bytes are left after the request's body. None if it needs more, or can't be written.
     #[tactic(auto, unfolding(crate::specs::Bodies::request_body))]
     fn deduct_from(&self, budget: usize) -> Option<usize>
         ensures { result ≡ (request_body (api_of self.now)).left self.now budget }
@@ -186,7 +186,7 @@ impl Request {
     }
 }
 
-/// Reads the body of a request to this api. The version matters to EndTxn alone, since each other api is served in one.
+/// Reads the body of a request to this API. The version matters to EndTxn alone, since each other API is served in one.
 fn read_form(
     alloc: Global,
     key: ApiKey,
@@ -224,7 +224,7 @@ fn read_form(
     })
 }
 
-/// Reads the body of a request to this api in its version. Bytes after the body are left to the caller.
+/// Reads the body of a request to this API in its version. Bytes after the body are left to the caller.
 #[tactic(auto, unfolding(crate::specs::Bodies::request_body))]
 fn read_body(alloc: Global, api: Api, cursor: &mut Cursor<'_>) -> Result<Request, ReadFault>
     ensures { Reads ((request_body api).reading cursor.old) result cursor.new }
@@ -281,7 +281,7 @@ pub fn read_request(alloc: Global, frame: &Bytes) -> Result<(Header, Request), R
     read_whole(alloc, frame)
 }
 
-/// The whole frame of an EndTxn request in its version, with its size field.
+/// The whole frame of an EndTxn request in its version, with its size field. The header has to be one of EndTxn in that version.
 #[tactic(auto, unfolding(crate::specs::Request::is_writable, crate::specs::Bodies::request_body, crate::specs::Frame::frame_fits))]
 fn write_ending(
     alloc: Global,
@@ -303,8 +303,9 @@ fn write_ending(
     }
 }
 
-/// The whole frame of a request, with its size field. The header is one of the request's api. `TooLong` if a frame can't
-/// hold it; `NoMemory` on an allocation failure.
+/// The whole frame of a request, with its size field. The header has to name the request's API and version. `TooLong` if the
+/// frame is longer than its size field can hold (`FRAME_LIMIT` isn't checked), or a length in it than its field; `NoMemory` on an
+/// allocation failure.
 #[tactic(auto, unfolding(crate::specs::Request::is_writable, crate::specs::Bodies::request_body, crate::specs::Frame::frame_fits))]
 pub fn write_request(alloc: Global, header: &Header, request: &Request) -> Result<Bytes, WriteFault>
     requires { api_at header.now.key header.now.version ≡ Some (api_of request.now) }

@@ -1,7 +1,7 @@
-//! What ApiVersions is answered: each api that is served, with its versions.
+//! What ApiVersions is answered: each API that is served, with its versions.
 //!
-//! A client asks for the versions before it knows them, and so in any version. Of a request in another than the one that
-//! is served only that is read which each header starts with, and the answer has the form of version 0.
+//! A client asks for the versions before it knows them, and so in any version. Of a request in a version that isn't served only
+//! the start is read that each header has, and the answer has the form of version 0.
 
 ghost use Rattle.std.specs.Prelude.{◌≡◌, ℤ, map, IfOk, IfSome, OnSome, Some, Err};
 ghost use Rattle.wire_types.specs.declared.fault.Malformed.TheVariants.{Unknown};
@@ -15,7 +15,7 @@ use msg_login::{ApiVersionsReply, ServedVersions};
 use std::alloc::{AllocError, Global};
 use wire_types::{Bytes, Cursor, ErrorCode, Items, Malformed, WriteFault};
 
-/// The entry of an api in the reply to ApiVersions: its key and its first and last version.
+/// The entry of an API in the reply to ApiVersions: its key and its first and last served version.
 fn served_in(key: ApiKey) -> ServedVersions
     ensures { result ≡ served_in key }
 {
@@ -27,7 +27,7 @@ fn served_in(key: ApiKey) -> ServedVersions
     }
 }
 
-/// The entries of these apis in the reply to ApiVersions.
+/// The entries of these APIs in the reply to ApiVersions, in the same order. An error is an allocation failure.
 fn all_served(alloc: Global, keys: &[ApiKey]) -> Result<Items<ServedVersions>, AllocError>
     ensures { IfOk result (λ served. served ≡ map served_in keys.now) }
 {
@@ -38,7 +38,7 @@ fn all_served(alloc: Global, keys: &[ApiKey]) -> Result<Items<ServedVersions>, A
     Ok(served)
 }
 
-/// The reply to ApiVersions in version 0: each api with its versions, by rising keys.
+/// The reply to ApiVersions in version 0: each served API with its versions, by rising keys. An error is an allocation failure.
 #[tactic(auto, unfolding(crate::specs::ApiKey::all_keys))]
 pub fn versions_reply(alloc: Global) -> Result<ApiVersionsReply, AllocError>
     ensures { IfOk result (λ answer. answer ≡ versions_reply) }
@@ -59,8 +59,7 @@ fn read_start(cursor: &mut Cursor<'_>) -> Result<((i16, i16), i32), Malformed>
     Ok(((key, version), correlation))
 }
 
-/// The correlation id of a frame that asks ApiVersions in a version that isn't served, else `None`. `unsupported_versions`
-/// is its public form.
+/// As `unsupported_versions`, which is its public form.
 #[tactic(auto, unfolding(crate::specs::Versions::unsupported_at))]
 fn asked_in_another(frame: &Bytes) -> Option<i32>
     ensures { result ≡ unsupported_at frame.now }
@@ -74,7 +73,7 @@ fn asked_in_another(frame: &Bytes) -> Option<i32>
     }
 }
 
-/// The correlation id of a frame that asks ApiVersions in a version that isn't served (KIP-511); `None` for any other frame.
+/// The correlation id of a frame that asks for ApiVersions in a version that isn't served (KIP-511); None for any other frame.
 /// The frame is given without its size field, and only its first eight bytes are read.
 pub fn unsupported_versions(frame: &Bytes) -> Option<i32>
     ensures found { IfSome result (λ correlation. AsksUnsupported frame.now correlation) }
@@ -88,8 +87,8 @@ pub fn unsupported_versions(frame: &Bytes) -> Option<i32>
     asked_in_another(frame)
 }
 
-/// The reply to ApiVersions in a version that isn't served: UNSUPPORTED_VERSION, and which versions of ApiVersions are
-/// (KIP-511).
+/// The reply to ApiVersions in a version that isn't served: UNSUPPORTED_VERSION, and the served versions of ApiVersions alone
+/// (KIP-511). An error is an allocation failure.
 fn unsupported_reply(alloc: Global) -> Result<ApiVersionsReply, AllocError>
     ensures { IfOk result (λ answer. answer ≡ unsupported_reply) }
 {
@@ -100,8 +99,8 @@ fn unsupported_reply(alloc: Global) -> Result<ApiVersionsReply, AllocError>
     })
 }
 
-/// The whole frame, with its size field, that answers ApiVersions in a version that isn't served (KIP-511):
-/// UNSUPPORTED_VERSION, and which versions of ApiVersions are. An `AllocError` is an allocation failure.
+/// The whole frame, with its size field, that answers ApiVersions in a version that isn't served (KIP-511): UNSUPPORTED_VERSION
+/// and the served versions of ApiVersions alone, in the form of version 0. An error is an allocation failure.
 pub fn write_unsupported_versions(alloc: Global, correlation: i32) -> Result<Bytes, AllocError>
     ensures { IfOk result (λ bytes. bytes ≡ unsupported_response correlation) }
 {

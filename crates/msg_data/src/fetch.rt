@@ -19,26 +19,28 @@ pub struct FetchPartition {
 /// Asks for records of partitions.
 #[derive(Drop, PartialEq, Eq)]
 pub struct FetchRequest {
-    /// Read and not looked at.
+    /// The replica id, -1 from a consumer. It is read and ignored.
     pub replica: i32,
-    /// Read and not waited for.
+    /// How long, in milliseconds, an answer with neither a record nor an error may be held back. The core answers at once; only
+    /// the session may hold it back (`serve` for librdkafka), for at most 100 ms.
     pub max_wait: i32,
-    /// Read and not waited for.
+    /// The number of bytes to wait for. It is read and ignored.
     pub min_bytes: i32,
+    /// At most how many bytes of batches the whole answer has, but for a first batch that is larger.
     pub max_bytes: i32,
     pub isolation: Isolation,
     pub topics: Items<Topic<FetchPartition>>,
 }
 
-/// A producer whose transaction was aborted, and the offset at which that transaction began.
+/// An aborted transaction among the served offsets: its producer id, and the offset of its first record.
 #[derive(Clone, Copy, Debug, PartialEq, Eq)]
 pub struct AbortedTransaction {
     pub producer: i64,
     pub first_offset: i64,
 }
 
-/// What a partition answers to a Fetch: an error, or its records, its high watermark and its last stable offset. The aborted
-/// transactions are listed for read_committed, and null otherwise.
+/// What a partition answers to a Fetch: an error, or its batches, its high watermark and its last stable offset. `aborted` lists
+/// the aborted transactions for read_committed, and is null for read_uncommitted and with an error.
 #[derive(Drop, PartialEq, Eq)]
 pub struct FetchedRecords {
     pub index: i32,
@@ -49,7 +51,7 @@ pub struct FetchedRecords {
     pub records: Pieces,
 }
 
-/// What each partition answers, in the request's order.
+/// What each partition answers, in the request's order. Throttle times of all replies are in milliseconds, and 0 here.
 #[derive(Drop, PartialEq, Eq)]
 pub struct FetchReply {
     pub throttle: i32,

@@ -3,7 +3,8 @@
 use std::alloc::Global;
 use wire_types::{Cursor, Malformed, ReadFault, Wire, WriteFault, deduct, write_i8};
 
-/// The isolation level of a reader: whether it is shown records of transactions that are still open.
+/// The isolation level of a reader, with its number on the wire: read_committed hides records of aborted and of open
+/// transactions. Any other number is read as `Malformed::Range`.
 #[derive(Clone, Copy, Debug, PartialEq, Eq)]
 pub enum Isolation {
     ReadUncommitted = 0,

@@ -1,4 +1,4 @@
-//! ListOffsets, version 2: where the log of a partition begins or ends.
+//! ListOffsets, version 2: where the log of a partition begins, or ends for a reader.
 
 use crate::isolation::Isolation;
 use std::alloc::Global;
@@ -7,24 +7,24 @@ use wire_types::{
     write_array, write_i32, write_i64,
 };
 
-/// A partition and the timestamp whose offset is asked for, in milliseconds; -1 asks for the end of the log and -2 for its
-/// start.
+/// A partition and the timestamp whose offset is asked for: -1 asks for the end (the last stable offset with read_committed, else
+/// the high watermark), -2 for the start. Any other is answered INVALID_REQUEST.
 #[derive(Drop, PartialEq, Eq)]
 pub struct WantedOffset {
     pub index: i32,
     pub timestamp: i64,
 }
 
-/// Asks for offsets of partitions.
+/// Asks for offsets of partitions, as a reader of this isolation level sees them.
 #[derive(Drop, PartialEq, Eq)]
 pub struct ListOffsetsRequest {
-    /// Read and not looked at.
+    /// The replica id, -1 from a consumer. It is read and ignored.
     pub replica: i32,
     pub isolation: Isolation,
     pub topics: Items<Topic<WantedOffset>>,
 }
 
-/// What a partition answers: an error, or the offset that was found with its timestamp, each -1 where there is none.
+/// What a partition answers: an error with -1 for timestamp and offset, or the offset that was found, with timestamp -1.
 #[derive(Drop, PartialEq, Eq)]
 pub struct FoundOffset {
     pub index: i32,

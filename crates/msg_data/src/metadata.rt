@@ -8,7 +8,7 @@ use wire_types::{
     write_array, write_bool, write_i32, write_nullable, write_nullable_array, write_string,
 };
 
-/// Asks for the metadata of these topics; of all of them where the list is null.
+/// Asks for the metadata of these topics, or of all topics where the list is null. An empty list asks for none.
 #[derive(Drop, PartialEq, Eq)]
 pub struct MetadataRequest {
     pub topics: Option<Items<Text>>,

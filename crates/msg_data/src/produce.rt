@@ -14,14 +14,15 @@ use wire_types::{
     write_i16, write_i32, write_i64, write_nullable, write_nullable_bytes,
 };
 
-/// A partition and the batch to append there, `None` where the records are null. The batch was checked when it was read.
+/// A partition and the batch to append there, None where the records are null. `SentBatch` holds the first fault of a bad one.
 #[derive(Drop, PartialEq, Eq)]
 pub struct ProducedRecords {
     pub index: i32,
     pub records: Option<SentBatch>,
 }
 
-/// Asks for batches of records to be appended to partitions.
+/// Asks for batches of records to be appended to partitions. With acks 0 no response is sent; the timeout, in milliseconds, is
+/// ignored.
 #[derive(Drop, PartialEq, Eq)]
 pub struct ProduceRequest {
     pub transactional_id: Option<Text>,
@@ -30,7 +31,8 @@ pub struct ProduceRequest {
     pub topics: Items<Topic<ProducedRecords>>,
 }
 
-/// What became of a partition's batch: the offset of its first record, or an error and -1.
+/// What became of a partition's batch: the offset of its first record, or an error and -1. `log_append_time` is -1 always, as
+/// topics use CreateTime.
 #[derive(Drop, PartialEq, Eq)]
 pub struct ProducedOffset {
     pub index: i32,
@@ -46,8 +48,8 @@ pub struct ProduceReply {
     pub throttle: i32,
 }
 
-/// Reads the nullable records of a partition, checks the batch and keeps its first fault; `None` for null records. A faulty
-/// batch is no `ReadFault`: that is only for bytes that end too early or a length below -1, or for an allocation failure.
+/// Reads the nullable records of a partition, checks the batch and keeps its first fault; None for null records. A faulty batch
+/// is no `ReadFault`: that is only for bytes that end too early, a length below -1, or an allocation failure.
 fn read_records(alloc: Global, cursor: &mut Cursor<'_>) -> Result<Option<SentBatch>, ReadFault>
     ensures { Reads (nullable_bytes.reading cursor.old) result cursor.new }
 {
@@ -57,7 +59,7 @@ fn read_records(alloc: Global, cursor: &mut Cursor<'_>) -> Result<Option<SentBat
     }
 }
 
-/// Writes the records of a partition after their length of 32 bits, or the length -1 for `None`.
+/// Appends the records of a partition after their length of 32 bits, or the length -1 for None. An error leaves `out` as it was.
 #[tactic(auto, unfolding(wire_types::specs::Spelling::after_count_fits, wire_types::specs::Spelling::after_null_count_fits, wire_types::specs::Spelling::after_null_count_put, wire_types::specs::Spelling::null_count_fits))]
 fn write_records(out: &mut Vec<u8>, records: &Option<SentBatch>) -> Result<(), WriteFault>
     ensures spelled { Puts nullable_bytes records.now out.old.items result out.new.items }
@@ -70,7 +72,8 @@ fn write_records(out: &mut Vec<u8>, records: &Option<SentBatch>) -> Result<(), W
     }
 }
 
-/// How many of `budget` bytes the records of a partition leave with their length. `None` if these bytes don't suffice.
+/// How many of `budget` bytes are left after the records of a partition and their length. None where they need more, or are too
+/// many for the length.
 #[tactic(auto, unfolding(wire_types::specs::Spelling::after_null_count_left, wire_types::specs::Spelling::null_count_fits))]
 fn deduct_records(records: &Option<SentBatch>, budget: usize) -> Option<usize>
     ensures { result ≡ nullable_bytes.left records.now budget }

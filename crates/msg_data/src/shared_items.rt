@@ -8,7 +8,7 @@ use wire_types::{
     Cursor, Items, ReadFault, Shared, Wire, WriteFault, deduct_array, read_array, write_array,
 };
 
-/// A list with several owners, of whom this is one.
+/// A list with several owners, of whom this is one. Contracts see it as the list.
 pub struct SharedItems<T> {
     list: Shared<Items<T>>,
 }
@@ -28,7 +28,8 @@ impl<T: Drop> Drop for SharedItems<T> {
 }
 
 impl<T> SharedItems<T> {
-    /// Makes a list that may be shared; what it gives is the first owner. An `AllocError` is an allocation failure.
+    /// Makes a list that may be shared, of which the result is the first owner. An error is an allocation failure, and drops the
+    /// items.
     pub fn of(alloc: Global, items: Items<T>) -> Result<SharedItems<T>, AllocError>
     where
         T: Drop,
@@ -39,7 +40,7 @@ impl<T> SharedItems<T> {
         })
     }
 
-    /// One more owner of the same list, without a copy. It fails only where the count of owners is full.
+    /// One more owner of the same list, without a copy. An error comes only where the count of owners is full.
     pub fn share(&self) -> Result<SharedItems<T>, AllocError>
         ensures { IfOk result (λ s. s ≡ self.now) }
     {

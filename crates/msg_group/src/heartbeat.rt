@@ -6,7 +6,7 @@ use wire_types::{
     write_string,
 };
 
-/// Tells that a group's member is alive.
+/// Says that a group's member is alive, and asks whether its generation is still the group's.
 #[derive(Drop, PartialEq, Eq)]
 pub struct HeartbeatRequest {
     pub group: Text,
@@ -14,7 +14,7 @@ pub struct HeartbeatRequest {
     pub member: Text,
 }
 
-/// Whether the group has that member in that generation: error code 0, or why not.
+/// Error code 0 where the group has that member in that generation, or why not: UNKNOWN_MEMBER_ID or ILLEGAL_GENERATION, say.
 #[derive(Drop, PartialEq, Eq)]
 pub struct HeartbeatReply {
     pub throttle: i32,

@@ -1,4 +1,4 @@
-//! JoinGroup, version 2: a member comes into a group.
+//! JoinGroup, version 2: a member joins a group.
 
 use std::alloc::Global;
 use wire_types::{
@@ -18,7 +18,7 @@ pub struct OfferedProtocol {
 pub struct JoinGroupRequest {
     pub group: Text,
     pub session_timeout: i32,
-    /// Read and not looked at.
+    /// How long the other members may take to join again. It is read and ignored.
     pub rebalance_timeout: i32,
     pub member: Text,
     pub protocol_type: Text,
@@ -32,7 +32,7 @@ pub struct JoinedMember {
     pub metadata: Bytes,
 }
 
-/// The group's generation, its protocol and leader, and the member's own id. Only a leader is given the members.
+/// The group's generation, its protocol and leader, and the member's own id; or an error. Only the leader gets the members.
 #[derive(Drop, PartialEq, Eq)]
 pub struct JoinGroupReply {
     pub throttle: i32,

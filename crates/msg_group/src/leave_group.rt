@@ -1,4 +1,4 @@
-//! LeaveGroup, version 1: a member goes.
+//! LeaveGroup, version 1: a member leaves its group.
 
 use std::alloc::Global;
 use wire_types::{

@@ -1,4 +1,4 @@
-//! OffsetCommit, version 2: how far a group has come.
+//! OffsetCommit, version 2: a group's offsets are committed.
 
 use std::alloc::Global;
 use wire_types::{
@@ -21,7 +21,7 @@ pub struct OffsetCommitRequest {
     pub group: Text,
     pub generation: i32,
     pub member: Text,
-    /// Read and not looked at.
+    /// How long, in milliseconds, the offsets are to be kept. It is read and ignored: they are kept without end.
     pub retention: i64,
     pub topics: Items<Topic<OffsetToCommit>>,
 }

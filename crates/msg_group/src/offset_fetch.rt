@@ -1,4 +1,4 @@
-//! OffsetFetch, version 7: how far a group has committed.
+//! OffsetFetch, version 7: the offsets that a group has committed.
 
 use std::alloc::Global;
 use wire_types::{
@@ -10,7 +10,7 @@ use wire_types::{
 };
 
 /// Asks for a group's committed offsets of these partitions, or of all that have one where the list is null. With
-/// `require_stable` an offset isn't given while a transaction may yet change it (KIP-447).
+/// `require_stable` a partition with an offset staged by an open transaction answers UNSTABLE_OFFSET_COMMIT (KIP-447).
 #[derive(Drop, PartialEq, Eq)]
 pub struct OffsetFetchRequest {
     pub group: Text,
@@ -23,6 +23,7 @@ pub struct OffsetFetchRequest {
 pub struct FetchedOffset {
     pub index: i32,
     pub offset: i64,
+    /// -1 always: leader epochs of commits aren't kept.
     pub leader_epoch: i32,
     pub metadata: Option<Text>,
     pub error: ErrorCode,

@@ -1,4 +1,4 @@
-//! SyncGroup, version 1: what the leader assigns to each member.
+//! SyncGroup, version 1: the leader's assignment for each member.
 
 use std::alloc::Global;
 use wire_types::{
@@ -13,7 +13,7 @@ pub struct MemberAssignment {
     pub assignment: Bytes,
 }
 
-/// Asks for the member's own assignment. The leader also tells the assignments of all members.
+/// Asks for the member's own assignment. The leader sends the assignments of all members; from others the list is empty.
 #[derive(Drop, PartialEq, Eq)]
 pub struct SyncGroupRequest {
     pub group: Text,
@@ -22,7 +22,7 @@ pub struct SyncGroupRequest {
     pub assignments: Items<MemberAssignment>,
 }
 
-/// What is assigned to the member, or an error.
+/// What is assigned to the member, or an error and no bytes.
 #[derive(Drop, PartialEq, Eq)]
 pub struct SyncGroupReply {
     pub throttle: i32,

@@ -6,7 +6,7 @@ use wire_types::{
     write_array, write_i16,
 };
 
-/// An api by its key, with the first and the last version in which it is served.
+/// An API by its key, with the first and the last version in which it is served.
 #[derive(Drop, PartialEq, Eq)]
 pub struct ServedVersions {
     pub key: i16,

@@ -1,4 +1,4 @@
-//! SaslAuthenticate, version 0: what a mechanism has client and broker tell each other.
+//! SaslAuthenticate, version 0: the bytes that client and broker exchange for a SASL mechanism.
 
 ghost use Rattle.std.specs.Prelude.{◌≡◌};
 ghost use Rattle.msg_login.specs.SaslAuthenticate.{authenticate_reply};
@@ -9,7 +9,7 @@ use wire_types::{
     write_bytes, write_nullable,
 };
 
-/// What the client sends for its SASL mechanism; with PLAIN its name and password (RFC 4616).
+/// The client's bytes for its SASL mechanism; with PLAIN `[authzid] NUL authcid NUL passwd` (RFC 4616).
 #[derive(Drop, PartialEq, Eq)]
 pub struct SaslAuthenticateRequest {
     pub auth: Bytes,
@@ -24,7 +24,8 @@ pub struct SaslAuthenticateReply {
 }
 
 impl SaslAuthenticateReply {
-    /// The reply with this error code, no message and empty SASL bytes: with PLAIN the broker has nothing more to send.
+    /// The reply with this error code, which is 0 for a login, with no message and empty SASL bytes: with PLAIN the broker has
+    /// nothing to send.
     pub fn telling(error: ErrorCode) -> SaslAuthenticateReply
         ensures { result ≡ authenticate_reply error }
     {

@@ -1,4 +1,4 @@
-//! SaslHandshake, version 1: the mechanism that a client is going to log in by. PLAIN alone is offered (RFC 4616).
+//! SaslHandshake, version 1: the mechanism by which a client is going to log in. PLAIN alone is offered (RFC 4616).
 
 ghost use Rattle.std.specs.Prelude.{◌≡◌, IfOk};
 ghost use Rattle.msg_login.specs.SaslHandshake.{handshake_reply};
@@ -23,7 +23,7 @@ pub struct SaslHandshakeReply {
 }
 
 impl SaslHandshakeReply {
-    /// The reply with this error code and the list of served mechanisms, which is PLAIN alone.
+    /// The reply with this error code and the list of served mechanisms, which is PLAIN alone. An error is an allocation failure.
     pub fn telling(alloc: Global, error: ErrorCode) -> Result<SaslHandshakeReply, AllocError>
         ensures { IfOk result (λ reply. reply ≡ handshake_reply error) }
     {

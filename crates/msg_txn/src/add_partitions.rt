@@ -12,6 +12,7 @@ pub struct AddPartitionsToTxnRequest {
     pub transactional_id: Text,
     pub producer: i64,
     pub epoch: i16,
+    /// The topics, each with the indexes of its partitions.
     pub topics: Items<Topic<i32>>,
 }
 

@@ -12,12 +12,13 @@ use wire_types::{
     write_no_tags, write_string,
 };
 
-/// The request's fields, which are the same in all versions.
+/// The request's fields, which are the same in all versions; as `Wire` in the form of versions 0 to 2.
 #[derive(Drop, PartialEq, Eq)]
 pub struct EndTxn {
     pub transactional_id: Text,
     pub producer: i64,
     pub epoch: i16,
+    /// True to commit, false to abort.
     pub committed: bool,
 }
 
@@ -74,7 +75,7 @@ pub enum EndTxnReply {
 }
 
 impl EndTxnRequest {
-    /// Reads the body of an EndTxn request in this version, which is 0 to 5. Bytes after the body are left to the caller.
+    /// Reads the body of an EndTxn request in this version, which has to be 0 to 5. Bytes after the body are left to the caller.
     pub fn read(
         alloc: Global,
         version: i16,
@@ -122,7 +123,7 @@ impl EndTxnRequest {
 }
 
 impl EndTxnReply {
-    /// Reads the body of an EndTxn reply in this version, which is 0 to 5. Bytes after the body are left to the caller.
+    /// Reads the body of an EndTxn reply in this version, which has to be 0 to 5. Bytes after the body are left to the caller.
     pub fn read(
         alloc: Global,
         version: i16,

@@ -1,4 +1,4 @@
-//! FindCoordinator, version 1: the broker that a group or a transactional id belongs to.
+//! FindCoordinator, version 1: the broker that coordinates a group or a transactional id.
 
 use std::alloc::Global;
 use wire_types::{
@@ -10,11 +10,12 @@ use wire_types::{
 #[derive(Drop, PartialEq, Eq)]
 pub struct FindCoordinatorRequest {
     pub key: Text,
-    /// Any number is read: of another than 0 and 1 the answer tells that it is none.
+    /// 0 for a group, 1 for a transactional id. Any other number is read too, and answered INVALID_REQUEST.
     pub key_type: i8,
 }
 
-/// The broker that coordinates the group or the transactional id; or an error, node -1, an empty host and port -1.
+/// The broker that coordinates the group or the transactional id; or an error, node -1, an empty host and port -1. This broker
+/// sends no message (null).
 #[derive(Drop, PartialEq, Eq)]
 pub struct FindCoordinatorReply {
     pub throttle: i32,

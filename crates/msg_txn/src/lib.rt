@@ -2,7 +2,7 @@
 //!
 //! One file for each api, with the fields in their order on the wire; `specs/` has the grammar of each.
 //! Each message and each part of one is a `Wire`: `read` reads it from bytes, `put` appends its bytes, and `deduct_from`
-//! tells how many of a budget of bytes they leave.
+//! returns how many of a budget of bytes are left after these.
 #![tactic(auto)]
 
 mod add_offsets;

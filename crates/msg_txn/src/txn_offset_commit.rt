@@ -13,7 +13,7 @@ use wire_types::{
 pub struct OffsetToStage {
     pub index: i32,
     pub offset: i64,
-    /// Read and not looked at.
+    /// The leader epoch of the last record that was consumed. It is read and ignored.
     pub leader_epoch: i32,
     pub metadata: Option<Text>,
 }
@@ -27,7 +27,7 @@ pub struct TxnOffsetCommitRequest {
     pub epoch: i16,
     pub generation: i32,
     pub member: Text,
-    /// Read and not looked at.
+    /// The group instance id of a static member (KIP-345). It is read and ignored.
     pub instance: Option<Text>,
     pub topics: Items<Topic<OffsetToStage>>,
 }

@@ -37,7 +37,7 @@ pub fn refused_changes_nothing()
 {}
 
 /// The refusals of a request are those of its refused parts, in order. Each names the first binding by creation number that
-/// denies its question, or tells that no binding allows it.
+/// denies its question, or says that no binding denies or allows it.
 pub fn refusals_are_of_parts()
     ensures parts { RefusalsAreOfParts }
     ensures names { RefusalsAreRight }

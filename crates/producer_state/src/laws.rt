@@ -2,26 +2,26 @@
 
 ghost use Rattle.producer_state.specs.Laws.{AcceptedOnce, NextIsCount, NumbersAlone, SentAgainRepeats, NewerFences};
 
-/// A log holds the batches of a producer in an epoch once each, in order and without a gap, if each was appended only when
-/// its judgment was `Next`.
+/// A log of which each data batch was judged `Next` by those before it holds the batches of a producer in an epoch once each,
+/// from sequence number 0, in order and without a gap.
 pub fn accepted_once()
     ensures { AcceptedOnce }
 {}
 
-/// A batch that is judged `Next` begins with the sequence number that counts the records which the log holds of its producer
-/// in its epoch, modulo 2^31.
+/// In a log as in `accepted_once`, a batch that is judged `Next` begins with the number of records that the log holds of its
+/// producer in its epoch, modulo 2^31.
 pub fn next_is_count()
     ensures { NextIsCount }
 {}
 
-/// A batch's judgment depends on its producer id, its epoch and its sequence numbers, and on nothing else in it, such as its
-/// base offset.
+/// A batch's judgment depends on its producer id, its epoch, its base sequence and its record count, and on nothing else in it,
+/// such as its base offset.
 pub fn numbers_alone()
     ensures { NumbersAlone }
 {}
 
-/// Where a batch was accepted and is sent again right after, it is judged a `Repeat` with its old offset. So it isn't
-/// appended twice.
+/// Where a data batch of a producer was judged `Next` and appended, and one with the same sequence numbers comes right after it,
+/// that one is judged a `Repeat` with the old offset. So it isn't appended twice.
 pub fn sent_again_repeats()
     ensures { SentAgainRepeats }
 {}

@@ -1,7 +1,8 @@
-//! Idempotent producers: which sequence numbers each producer of a partition has written, and how the batch that it
+//! Idempotent producers (KIP-98): which sequence numbers each producer of a partition has written, and how the batch that it
 //! sends next is judged by that.
 //!
-//! [`Producers`] keeps of each producer what the partition's log says of it. Nothing is forgotten.
+//! [`Producers`] keeps for each producer id its epoch, the expected sequence number and the last five batches, without end: a
+//! producer that is silent isn't forgotten.
 #![tactic(auto)]
 
 mod judgment;

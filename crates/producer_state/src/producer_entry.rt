@@ -1,4 +1,4 @@
-//! What is kept of one producer.
+//! What is kept of one producer, as Kafka's ProducerStateEntry.
 
 ghost use Rattle.std.specs.Prelude.{◌≡◌, ◌&&◌, IfOk, Some};
 ghost use Rattle.std.specs.List.{find};
@@ -15,19 +15,19 @@ use std::alloc::{AllocError, Global};
 use std::marker::Model;
 use wire_types::ErrorCode;
 
-/// A data batch that the log holds.
+/// Where a data batch stands in the log, and its sequence numbers.
 #[derive(Clone, Copy, Debug)]
 pub struct BatchMetadata {
-    /// The sequence number of its first record.
+    /// The sequence number of the batch's first record.
     pub first: i32,
-    /// The sequence number of its last record.
+    /// The sequence number of the batch's last record.
     pub last: i32,
-    /// The offset of its first record.
+    /// The offset of the batch's first record.
     pub offset: i64,
 }
 
 impl BatchMetadata {
-    /// The metadata of a data batch that stands at this offset.
+    /// The metadata of a data batch that stands at this offset in the log, whatever base offset its header holds.
     fn of(batch: &Batch, offset: i64) -> BatchMetadata
         ensures { result ≡ written_of (written_at offset batch.now) }
     {
@@ -39,7 +39,7 @@ impl BatchMetadata {
         }
     }
 
-    /// Whether the batch has the same first and the same last sequence number.
+    /// Whether `batch` has the same first and the same last sequence number. Producer and epoch aren't compared.
     fn has_sequences_of(&self, batch: &Batch) -> bool
         ensures { result ≡ has_sequences_of batch.now self.now }
     {
@@ -48,7 +48,7 @@ impl BatchMetadata {
     }
 }
 
-/// How many data batches are kept of a producer.
+/// How many data batches are kept of a producer, as in Kafka.
 const KEPT: usize = 5;
 
 /// A producer's epoch, the sequence number that is expected of it, and its last five data batches of that epoch, the
@@ -72,8 +72,7 @@ impl Model for ProducerEntry {
 }
 
 impl ProducerEntry {
-    /// A producer with no data batch in this epoch: sequence number 0 is expected next. An `AllocError` is an allocation
-    /// failure.
+    /// A producer in this epoch with no data batch: sequence number 0 is expected next. An error is an allocation failure.
     pub(crate) fn fresh(alloc: Global, epoch: i16) -> Result<ProducerEntry, AllocError>
         ensures { IfOk result (λ k. k ≡ fresh_state epoch) }
     {
@@ -85,8 +84,8 @@ impl ProducerEntry {
         })
     }
 
-    /// Goes to this epoch if it is newer than the producer's. Then sequence numbers begin at 0 again, and no batch of the
-    /// old epoch is kept.
+    /// Goes to this epoch if it is newer than the producer's: then sequence numbers begin at 0 again, and the batches of the old
+    /// epoch are forgotten. An older or equal epoch changes nothing.
     pub(crate) fn update_epoch(&mut self, epoch: i16)
         ensures { self.new ≡ state_in_epoch (Some self.old) epoch }
     {
@@ -97,8 +96,8 @@ impl ProducerEntry {
         }
     }
 
-    /// Keeps what a batch of the producer, which was appended at this offset, tells: its sequence numbers, if it is a data
-    /// batch of the producer's epoch. A marker or another epoch changes nothing.
+    /// Keeps the sequence numbers and the offset of a batch of this producer that was appended at `offset`, if it is a data batch
+    /// of the producer's epoch. A marker or a batch of another epoch changes nothing.
     pub(crate) fn note(&mut self, batch: &Batch, offset: i64)
         ensures { self.new ≡ state_with_batch_if
             (is_data batch.now && int_eq self.old.epoch batch.now.header.producer_epoch)
@@ -110,9 +109,9 @@ impl ProducerEntry {
         }
     }
 
-    /// Judges a batch of this producer: an older epoch is refused (INVALID_PRODUCER_EPOCH), one of the last five data
-    /// batches is a `Repeat`, the expected sequence number is `Next`, and any other is refused
-    /// (OUT_OF_ORDER_SEQUENCE_NUMBER). The first batch of a newer epoch has to begin at 0.
+    /// Judges a batch of this producer. An older epoch is refused (INVALID_PRODUCER_EPOCH), and a newer one is judged as by
+    /// `begun`. In the same epoch one of the last five data batches is a `Repeat`, the expected sequence number is `Next`, and
+    /// any other is refused (OUT_OF_ORDER_SEQUENCE_NUMBER).
     pub(crate) fn judge(&self, batch: &Batch) -> Judgment
         ensures { result ≡ judgment_by_state (Some self.now) batch.now }
     {
@@ -142,7 +141,7 @@ pub(crate) fn begun(batch: &Batch) -> Judgment
     }
 }
 
-/// The latest of the kept batches that has the first and last sequence numbers of this one, `None` if there is none.
+/// The latest of the kept batches that has the first and last sequence numbers of `batch`, or None.
 fn find_repeat(latest: &HeapCircularBuffer<BatchMetadata>, batch: &Batch) -> Option<BatchMetadata>
     ensures { result ≡ find (has_sequences_of batch.now) latest.now.items }
 {

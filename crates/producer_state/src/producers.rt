@@ -1,4 +1,4 @@
-//! The producers of a partition.
+//! The producers of a partition, as Kafka's ProducerStateManager keeps them.
 
 ghost use Rattle.std.specs.Prelude.{◌≡◌, ◌≤ℤ◌, pos, List, [], ◌∷◌, ◌++◌, OnOk, OnErr, None};
 ghost use Rattle.record_batch.specs.Batch.{BatchData, written_at};
@@ -12,7 +12,7 @@ use std::alloc::{AllocError, Global};
 use std::collections::BTreeMap;
 use std::marker::Model;
 
-/// What is kept of each producer that a partition's log tells of.
+/// What is kept of each producer id of which a partition's log has a batch or a marker.
 #[derive(Drop)]
 pub struct Producers {
     table: BTreeMap<i64, ProducerEntry>,
@@ -40,8 +40,8 @@ impl Producers {
         }
     }
 
-    /// Judges a batch that is sent to the log whose producers these are: whether it is next, was sent before, or is refused.
-    /// A batch without a producer id is always `Next`. It allocates nothing.
+    /// Judges a batch that is sent to the log whose producers these are: whether it is next, was sent before, or is refused. A
+    /// batch without a producer id is always `Next`. It allocates nothing and changes nothing.
     pub fn judge(&self, batch: &Batch) -> Judgment
         ensures { (log : List BatchData) → Describes self.now log → result
             ≡ judgment_of log batch.now }
@@ -56,8 +56,8 @@ impl Producers {
         }
     }
 
-    /// Keeps what a batch or marker that was appended at this offset tells of its producer. An allocation failure changes
-    /// nothing, and comes only for a producer of whom nothing was kept.
+    /// Keeps the epoch, sequence numbers and offset of a batch or marker that was appended at `offset`; one without a producer id
+    /// changes nothing. An allocation failure changes nothing, and comes only for a producer of whom nothing was kept.
     pub fn note(&mut self, batch: &Batch, offset: i64) -> Result<(), AllocError>
         ensures ok { OnOk result ((log : List BatchData) → Describes self.old log →
             Describes self.new (log ++ written_at offset batch.now ∷ [])) }
@@ -82,8 +82,8 @@ impl Producers {
         Ok(())
     }
 
-    /// Keeps what an appended transaction marker tells of this producer: its epoch. An allocation failure changes nothing,
-    /// and comes only for a producer of whom nothing was kept.
+    /// Keeps the epoch of a transaction marker of this producer that was appended: a newer one starts its sequence numbers again
+    /// at 0. An allocation failure changes nothing, and comes only for a producer of whom nothing was kept.
     pub fn note_marker(&mut self, producer: i64, epoch: i16) -> Result<(), AllocError>
         ensures ok { OnOk result ((log : List BatchData) (marker : BatchData) →
             IsMarkerOf producer epoch marker → Describes self.old log →

@@ -17,8 +17,8 @@ use std::alloc::{AllocError, Global};
 use std::marker::Model;
 use wire_types::{Bytes, Cursor, Items, Piece, ReadFault};
 
-/// A batch of records, or a control batch; seen as its header, its records, its outcome and its
-/// bytes.
+/// A record batch of message format 2, of data or a control batch, whose header is kept as it was read from the bytes. Contracts
+/// see it as its header, its records, its outcome and its bytes.
 pub struct Batch {
     header: BatchHeader,
     marker: Option<TransactionResult>,
@@ -46,8 +46,8 @@ impl Drop for Batch {
 }
 
 impl Batch {
-    /// Checks bytes that a producer sent as one record batch, of at most `max` bytes. Gives the batch or the first fault. It
-    /// copies nothing and allocates nothing.
+    /// Checks bytes that a producer sent as one record batch, of at most `max` bytes. Returns the data batch, or the first fault
+    /// in the order of `BatchFault`, whose `code` is Produce's error. It copies nothing and allocates nothing.
     pub fn check(bytes: Bytes, max: u32) -> Result<Batch, BatchFault>
         ensures fault { fault_in result ≡ first_fault max bytes }
         ensures batch { IfOk result (λ b. (b.bytes ≡ bytes) × (b.marker ≡ None) × IsBatch b) }
@@ -55,7 +55,8 @@ impl Batch {
         SentBatch::of(bytes).batch(max)
     }
 
-    /// The data batch that these bytes are, whose header was read from them and in which no fault was found.
+    /// The data batch of these bytes, unchecked: the caller has to have read `header` from them, and to have found no fault in
+    /// them.
     pub(crate) fn faultless(header: BatchHeader, bytes: Bytes) -> Batch
         requires header { batch_header.reading bytes ≡ Ok (header, drop 61 bytes) }
         requires fault { fault_at_any_size bytes ≡ None }
@@ -68,8 +69,8 @@ impl Batch {
         }
     }
 
-    /// The control batch that marks that a producer's transaction was committed or aborted, with this timestamp in
-    /// milliseconds. An `AllocError` is an allocation failure.
+    /// Makes the control batch that marks that this producer's transaction was committed or aborted, at base offset 0. `moment`
+    /// is its timestamp in milliseconds. An error is an allocation failure.
     pub fn control(
         alloc: Global,
         outcome: TransactionResult,
@@ -129,8 +130,8 @@ impl Batch {
         self.header.has_offsets()
     }
 
-    /// The records with their offsets. Keys, values and headers share the batch's bytes. An `AllocError` is an allocation
-    /// failure.
+    /// Reads the records, with their offsets. Keys, values and headers share the batch's bytes. `has_offsets` has to hold. An
+    /// error is an allocation failure.
     pub fn recs(&self, alloc: Global) -> Result<Items<RecordAt>, AllocError>
         requires { HasOffsets self.now }
         ensures { IfOk result (λ recs.
@@ -146,7 +147,7 @@ impl Batch {
         }
     }
 
-    /// The offset after the last record's.
+    /// The offset after the last record's. `has_offsets` has to hold.
     pub fn next_offset(&self) -> i64
         requires { HasOffsets self.now }
         ensures { result ≡ next_offset self.now }
@@ -155,7 +156,8 @@ impl Batch {
     }
 
     /// The same batch with its first record at this offset, and with the partition leader epoch 0. All bytes after these two
-    /// fields are shared. The checksum covers neither, so it is still right. An `AllocError` is an allocation failure.
+    /// fields are shared. The checksum covers neither, so it is still right. An error comes only where the count of owners is
+    /// full.
     pub fn write_at(&self, offset: i64) -> Result<Batch, AllocError>
         ensures value { IfOk result (λ b. b ≡ written_at offset self.now) }
         ensures batch { IfOk result IsBatch }
@@ -171,7 +173,8 @@ impl Batch {
     }
 }
 
-/// A batch's first 16 bytes (base offset, length, partition leader epoch) with this base offset and with the leader epoch 0.
+/// A batch's first 16 bytes (base offset, batch length, partition leader epoch) with `offset` as the base offset, the same
+/// length, and the leader epoch 0.
 #[tactic(auto, unfolding(wire_types::specs::Spelling::int_written))]
 fn front_at(offset: i64, front: &[u8; 16]) -> [u8; 16]
     ensures { result ≡ int64.written offset

@@ -1,4 +1,4 @@
-//! Looking for the first fault of bytes that a producer sent as a batch. It takes no memory.
+//! The search for the first fault of bytes that a producer sent as a batch. It takes no memory.
 
 ghost use Rattle.std.specs.Prelude.{◌≡◌, ◌+◌, ◌≤◌, length};
 ghost use Rattle.record_batch.specs.Batch.{has_producer};
@@ -10,15 +10,15 @@ use crate::header::BatchHeader;
 use crate::walk::are_records;
 
 impl BatchHeader {
-    /// Whether the header's batch length is at least 49, so that it takes in the rest of the header, and the batch ends
-    /// within `total` bytes.
+    /// Whether the header's batch length is at least 49, so that it takes in the rest of the header, and the batch ends within
+    /// `total` bytes. Bytes after the batch aren't refused here.
     fn has_length(&self, total: usize) -> bool
         ensures { result ≡ has_length total self.now.batch_length }
     {
         self.batch_length >= 49 && self.batch_length as usize + 12 <= total
     }
 
-    /// How many bytes the batch has by its header's batch length, with the 12 bytes before and in that field; 0 for a
+    /// How many bytes the batch has by its header's batch length, which counts neither itself nor the 8 bytes before it; 0 for a
     /// negative length.
     fn end(&self) -> usize
         ensures { result ≡ end_of self.now.batch_length }
@@ -29,8 +29,8 @@ impl BatchHeader {
         self.batch_length as usize + 12
     }
 
-    /// Whether the producer's fields fit together: either no producer (id -1) and no transaction, or an id, an epoch and a
-    /// base sequence of which none is negative.
+    /// Whether the producer's fields fit together: either the producer id -1 and no transaction, or an id, an epoch and a base
+    /// sequence of which none is negative. With the id -1 the epoch and the base sequence may be any.
     fn has_producer(&self) -> bool
         ensures { result ≡ has_producer self.now }
     {
@@ -83,8 +83,8 @@ impl BatchHeader {
         Ok(())
     }
 
-    /// Looks for the first fault of `bytes`, with `body` after this header, in the order of `BatchFault`; but not for
-    /// `TooLarge`.
+    /// Looks for the first fault of `bytes`, with `body` after this header, in the order of `BatchFault`; but not for `TooLarge`.
+    /// The header's 61 bytes have to be there.
     fn check_all(&self, body: &[u8], bytes: &[u8]) -> Result<(), BatchFault>
         requires { 61 ≤ length bytes.now }
         ensures { fault_in result

@@ -11,8 +11,8 @@ use std::alloc::{AllocError, Global};
 use wire_types::{write_i8, write_i16, write_i32, write_i64, write_u32};
 
 impl BatchHeader {
-    /// The header of a control batch with one record at offset 0, and with the checksum 0 until that is known. `moment` is
-    /// its timestamp in milliseconds.
+    /// The header of a control batch with one record at offset 0, with no base sequence (-1), and with the checksum 0 for the
+    /// caller to replace. `moment` is its timestamp in milliseconds.
     fn of_control(producer: i64, epoch: i16, moment: i64) -> BatchHeader
         ensures { result ≡ control_header producer epoch moment 0 }
     {
@@ -33,14 +33,14 @@ impl BatchHeader {
         }
     }
 
-    /// The same header with this checksum.
+    /// The same header with this checksum, right or wrong.
     fn with_crc(&self, crc: u32) -> BatchHeader
         ensures { result ≡ record self.now { crc = crc } }
     {
         BatchHeader { crc, ..*self }
     }
 
-    /// Appends the header's 61 bytes. On an allocation failure a part of them may stand there.
+    /// Appends the header's 61 bytes. An error is an allocation failure, and may leave a part of them.
     fn write(&self, out: &mut Vec<u8>) -> Result<(), AllocError>
         ensures { OnOk result (out.new.items ≡ batch_header.put out.old.items self.now) }
     {
@@ -60,8 +60,8 @@ impl BatchHeader {
     }
 }
 
-/// The 17 bytes of a control batch's one record, with its length before it: the key holds version 0 and the type (0 abort, 1
-/// commit), the value version 0 and coordinator epoch 0.
+/// The 17 bytes of a control batch's one record, of which the first is its length: the key holds version 0 and the type (0 abort,
+/// 1 commit), the value version 0 and coordinator epoch 0.
 const fn marker_text(outcome: TransactionResult) -> [u8; 17]
     ensures { result ≡ marker_text outcome }
 {
@@ -71,7 +71,7 @@ const fn marker_text(outcome: TransactionResult) -> [u8; 17]
     ]
 }
 
-/// The 78 bytes of a control batch: this header, and its one record.
+/// The 78 bytes of a control batch: this header as it is, and its one record. An error is an allocation failure.
 fn control_text(
     alloc: Global,
     outcome: TransactionResult,
@@ -85,8 +85,8 @@ fn control_text(
     Ok(out)
 }
 
-/// The header and the bytes of the control batch that marks that a producer's transaction was committed or aborted. `moment`
-/// is its timestamp in milliseconds.
+/// The header, with the right checksum, and the bytes of the control batch that marks that this producer's transaction was
+/// committed or aborted. `moment` is its timestamp in milliseconds. An error is an allocation failure.
 pub(crate) fn control_batch(
     alloc: Global,
     outcome: TransactionResult,

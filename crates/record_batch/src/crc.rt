@@ -1,4 +1,5 @@
-//! CRC-32C (RFC 3720), by tables: three words of eight bytes side by side where there are enough, else word by word.
+//! CRC-32C (RFC 3720), by tables: three words of eight bytes side by side where there are enough, else word by word. A remainder
+//! here is one of CRC-32C without the inversions at start and end.
 
 ghost use Rattle.std.specs.Prelude.{◌≡◌, ℕ, ◌<◌, ◌^◌, ◌/◌, ◌%◌, bit_xor};
 ghost use Rattle.std.specs.List.{concat, flat_map};
@@ -7,7 +8,7 @@ ghost use Rattle.record_batch.specs.Crc.{crc_step, crc_after, crc32c, bit_shift_
 use crate::far_table::far_byte_remainder;
 use crate::table::byte_remainder;
 
-/// The CRC remainder of a word's eight bytes, the lowest one first.
+/// The CRC-32C remainder of a word's eight bytes, the lowest one first, without the inversions at start and end.
 #[inline(always)]
 #[tactic(auto, using(crate::proofs::Chunks::word_by_bytes))]
 fn word_remainder(word: u64) -> u32
@@ -23,7 +24,7 @@ fn word_remainder(word: u64) -> u32
         ^ byte_remainder((word >> 56) as u8, 0)
 }
 
-/// The CRC remainder of a word's eight bytes, the lowest one first, with 16 zero bytes after them.
+/// As `word_remainder`, but with 16 zero bytes after the eight.
 #[inline(always)]
 #[tactic(auto, using(crate::proofs::Chunks::far_word_by_bytes))]
 fn far_word_remainder(word: u64) -> u32
@@ -39,7 +40,8 @@ fn far_word_remainder(word: u64) -> u32
         ^ far_byte_remainder((word >> 56) as u8, 0)
 }
 
-/// Eight bytes as one word, the first byte lowest. XORed with a remainder, it takes in all eight at once.
+/// Eight bytes as one word, the first byte lowest. `word_remainder` of this word XOR a remainder is the remainder after these
+/// bytes.
 #[inline(always)]
 fn word_of(bytes: &[u8; 8]) -> u64
     ensures { (crc : ℕ) → bit_shift_by 64 (bit_xor crc result) ≡ crc_after crc bytes.now }
@@ -47,7 +49,7 @@ fn word_of(bytes: &[u8; 8]) -> u64
     u64::from_le_bytes(*bytes)
 }
 
-/// The CRC remainder after eight more bytes, where it was `crc` before them.
+/// The CRC-32C remainder, without the inversions, after eight more bytes, where it was `crc` before them.
 #[inline(always)]
 fn after_chunk(crc: u32, chunk: &[u8; 8]) -> u32
     ensures { result ≡ crc_after crc chunk.now }
@@ -55,7 +57,7 @@ fn after_chunk(crc: u32, chunk: &[u8; 8]) -> u32
     word_remainder(crc as u64 ^ word_of(chunk))
 }
 
-/// The CRC remainder after more chunks of eight bytes, where it was `crc` before them.
+/// The CRC-32C remainder, without the inversions, after more chunks of eight bytes, where it was `crc` before them.
 fn after_chunks(crc: u32, chunks: &[[u8; 8]]) -> u32
     ensures { result ≡ crc_after crc (concat chunks.now) }
 {
@@ -66,7 +68,7 @@ fn after_chunks(crc: u32, chunks: &[[u8; 8]]) -> u32
     remainder
 }
 
-/// The CRC remainder after one more byte, where it was `crc` before it.
+/// The CRC-32C remainder, without the inversions, after one more byte, where it was `crc` before it.
 #[inline(always)]
 #[tactic(auto, using(crate::proofs::Bits::step_by_table))]
 fn after_byte(crc: u32, byte: u8) -> u32
@@ -75,7 +77,7 @@ fn after_byte(crc: u32, byte: u8) -> u32
     byte_remainder(((crc ^ byte as u32) & 0xff) as u8, 0) ^ (crc >> 8)
 }
 
-/// The CRC remainder after more bytes, taken one by one, where it was `crc` before them.
+/// The CRC-32C remainder, without the inversions, after more bytes, taken one by one, where it was `crc` before them.
 fn after_bytes(crc: u32, bytes: &[u8]) -> u32
     ensures { result ≡ crc_after crc bytes.now }
 {
@@ -86,9 +88,9 @@ fn after_bytes(crc: u32, bytes: &[u8]) -> u32
     remainder
 }
 
-/// The CRC remainder after more triples of eight-byte words, where it was `crc` before them. It keeps three sums, of the
-/// first, second and third words, so that no look-up waits for those of another sum. In the end the three are joined word by
-/// word.
+/// The CRC-32C remainder, without the inversions, after more triples of eight-byte words, where it was `crc` before them. It
+/// keeps three remainders, of the first, second and third words, so that no table look-up waits for those of another one, and
+/// joins them at the end.
 fn after_triples(crc: u32, triples: &[[[u8; 8]; 3]]) -> u32
     ensures { result ≡ crc_after crc (flat_map concat triples.now) }
 {
@@ -117,8 +119,8 @@ fn crc32c_by_words(bytes: &[u8]) -> u32
     after_bytes(after_chunks(0xffff_ffff, chunks), rest) ^ 0xffff_ffff
 }
 
-/// The CRC-32C of bytes, taken in triples of words, then in words, and the rest one by one. It isn't inlined, so that fewer
-/// bytes don't pay for the registers that it saves.
+/// The CRC-32C of bytes, taken in triples of words, then in words, and the rest one by one. It isn't inlined, so that short
+/// inputs, which don't come here, don't pay for its saved registers.
 #[inline(never)]
 fn crc32c_by_triples(bytes: &[u8]) -> u32
     ensures { result ≡ crc32c bytes.now }

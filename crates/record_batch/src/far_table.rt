@@ -1,4 +1,4 @@
-//! The remainders of single bytes, each with 16 to 23 zero bytes after it.
+//! The CRC-32C remainders of single bytes, each with 16 to 23 zero bytes after it.
 
 ghost use Rattle.std.specs.Prelude.{◌≡◌, ◌+◌, ◌*◌, ◌<◌};
 ghost use Rattle.record_batch.specs.Crc.{bit_shift_by};
@@ -318,7 +318,8 @@ static FAR_REMAINDERS: [[u32; 256]; 8] = [
     ],
 ];
 
-/// The CRC remainder of a byte with 16 zero bytes and `zeros` more after it, where `zeros` is at most 7.
+/// The CRC-32C remainder, without the inversions at start and end, of a byte with 16 + `zeros` zero bytes after it. `zeros` has
+/// to be at most 7.
 #[inline(always)]
 pub(crate) fn far_byte_remainder(byte: u8, zeros: usize) -> u32
     requires { zeros < 8 }

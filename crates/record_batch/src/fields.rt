@@ -21,7 +21,8 @@ impl Batch {
         self.header().batch_length
     }
 
-    /// The epoch of the partition's leader when the batch was appended; 0 once this broker stores it.
+    /// The epoch of the partition's leader, as the header holds it: whatever the producer sent, and 0 once this broker stores the
+    /// batch.
     pub fn partition_leader_epoch(&self) -> i32
         ensures { result ≡ self.now.header.partition_leader_epoch }
     {
@@ -35,21 +36,21 @@ impl Batch {
         self.header().magic
     }
 
-    /// The checksum of the bytes from the attributes on.
+    /// The header's checksum: the CRC-32C of the bytes from the attributes on.
     pub fn crc(&self) -> u32
         ensures { result ≡ self.now.header.crc }
     {
         self.header().crc
     }
 
-    /// The attribute bits: compression type (0 to 2), timestamp type (3), transactional (4), control batch (5).
+    /// The attribute bits, 0 the lowest: compression type (0 to 2), timestamp type (3), transactional (4), control batch (5).
     pub fn attributes(&self) -> i16
         ensures { result ≡ self.now.header.attributes }
     {
         self.header().attributes
     }
 
-    /// How far the last record's offset lies after the first one's.
+    /// How far the last record's offset is above the first one's: the record count less one.
     pub fn last_offset_delta(&self) -> i32
         ensures { result ≡ self.now.header.last_offset_delta }
     {
@@ -63,7 +64,7 @@ impl Batch {
         self.header().base_timestamp
     }
 
-    /// The greatest timestamp of a record, in milliseconds, as the header tells it.
+    /// The greatest timestamp of a record, in milliseconds, as the header tells it. It isn't compared with the records.
     pub fn max_timestamp(&self) -> i64
         ensures { result ≡ self.now.header.max_timestamp }
     {
@@ -77,21 +78,21 @@ impl Batch {
         self.header().producer_id
     }
 
-    /// The producer's epoch, or -1 where the producer is not idempotent.
+    /// The producer's epoch, or whatever the header holds (-1 from most clients) where the producer id is -1.
     pub fn producer_epoch(&self) -> i16
         ensures { result ≡ self.now.header.producer_epoch }
     {
         self.header().producer_epoch
     }
 
-    /// The sequence number of the first record, or -1 where the batch has none.
+    /// The sequence number of the first record; -1 in a control batch, and whatever the header holds where the producer id is -1.
     pub fn base_sequence(&self) -> i32
         ensures { result ≡ self.now.header.base_sequence }
     {
         self.header().base_sequence
     }
 
-    /// The number of records.
+    /// The number of records, at least 1.
     pub fn record_count(&self) -> i32
         ensures { result ≡ self.now.header.record_count }
     {

@@ -8,7 +8,8 @@ ghost use Rattle.record_batch.specs.BatchHeader.{batch_header, has_bit, is_uncom
 
 use wire_types::{Cursor, Malformed};
 
-/// The fields before a batch's records, in their order.
+/// The fields before a batch's records, in their order on the wire and with their values there. None of them is checked by
+/// itself.
 #[derive(Clone, Copy, Debug, PartialEq, Eq)]
 pub struct BatchHeader {
     pub base_offset: i64,
@@ -16,7 +17,9 @@ pub struct BatchHeader {
     pub batch_length: i32,
     pub partition_leader_epoch: i32,
     pub magic: i8,
+    /// The CRC-32C of the bytes from the attributes on.
     pub crc: u32,
+    /// Bits: compression type (0 to 2), timestamp type (3), transactional (4), control batch (5).
     pub attributes: i16,
     pub last_offset_delta: i32,
     pub base_timestamp: i64,
@@ -62,7 +65,7 @@ impl BatchHeader {
         })
     }
 
-    /// The header in the first 61 bytes, `None` if there are fewer. No field is checked.
+    /// The header in the first 61 bytes, or None where there are fewer. No field is checked.
     pub(crate) fn first_of(bytes: &[u8]) -> Option<BatchHeader>
         ensures none { IfNone result ((e : Malformed) × (batch_header.reading bytes.now ≡ Err e)) }
         ensures some { IfSome result (λ h.
@@ -76,7 +79,7 @@ impl BatchHeader {
         }
     }
 
-    /// Whether this bit of the attributes is set, where bit 0 is the lowest of 16.
+    /// Whether this bit of the attributes is set. Bit 0 is the lowest of 16.
     fn has_bit(&self, bit: u32) -> bool
         requires { bit < 16 }
         ensures { result ≡ has_bit bit self.now }
@@ -133,7 +136,7 @@ impl BatchHeader {
         }
     }
 
-    /// The offset after the last record's, which fits in an `i64`.
+    /// The offset after the last record's. `has_offsets` has to hold.
     pub(crate) fn next_offset(&self) -> i64
         requires { FitsSigned w64 (header_next_offset self.now) }
         ensures { result ≡ header_next_offset self.now }

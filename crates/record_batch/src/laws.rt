@@ -2,12 +2,12 @@
 
 ghost use Rattle.record_batch.specs.Laws.{OneBatch, FaultlessIsBatch, LastOffsetStays, OffsetAloneChanges, SameFaults, SizeIsLast};
 
-/// No bytes are two different batches: they determine the header and the records.
+/// Two different batches never have the same bytes: the bytes determine the header and the records.
 pub fn one_batch()
     ensures { OneBatch }
 {}
 
-/// Bytes have no fault exactly where they are a data batch that isn't too large.
+/// Bytes have no fault exactly where they are a data batch of at most the allowed size.
 pub fn faultless_is_batch()
     ensures { FaultlessIsBatch }
 {}
@@ -22,12 +22,13 @@ pub fn offset_alone_changes()
     ensures { OffsetAloneChanges }
 {}
 
-/// A batch that is written at another offset passes the same checks; so its checksum is still right.
+/// Writing a batch at another offset changes nothing about its first fault, whatever size is allowed. So its checksum is still
+/// right.
 pub fn same_faults()
     ensures { SameFaults }
 {}
 
-/// Any other fault of a batch is told before `TooLarge`.
+/// `TooLarge` is reported only for bytes without any other fault.
 pub fn size_is_last()
     ensures { SizeIsLast }
 {}

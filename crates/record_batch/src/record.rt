@@ -1,4 +1,4 @@
-//! Records: how they are read, and how they are walked over without keeping anything.
+//! Records, and how they are read.
 
 ghost use Rattle.std.specs.Prelude.{◌≡◌, ◌+ℤ◌, pos, FitsSigned};
 ghost use Rattle.std.specs.Int.{w64};
@@ -16,7 +16,7 @@ use wire_types::{
     write_varint_nullable_bytes,
 };
 
-/// A key and a value beside a record. Keys are kept as bytes and need not be text.
+/// A record's header, a key and a value. The key is bytes here and needn't be UTF-8.
 #[derive(Clone, Debug, Drop, PartialEq, Eq)]
 pub struct Header {
     pub key: Bytes,
@@ -26,6 +26,7 @@ pub struct Header {
 /// A record, whose parts share its batch's bytes.
 #[derive(Clone, Debug, Drop, PartialEq, Eq)]
 pub struct Rec {
+    /// Milliseconds after the batch's base timestamp.
     pub timestamp_delta: i64,
     pub key: Option<Bytes>,
     pub value: Option<Bytes>,
@@ -69,8 +70,8 @@ fn is_place(delta: i32, place: u32) -> bool
     i64::from(delta) == i64::from(place)
 }
 
-/// Reads what stands between a record's length and its key, and gives the timestamp delta. `Malformed::Range` if the offset
-/// delta isn't `place`, the record's place in the batch.
+/// Reads a record's attributes, which are ignored, its timestamp delta, which is returned, and its offset delta.
+/// `Malformed::Range` where the offset delta isn't `place`, the record's place in the batch, counted from 0.
 #[tactic(auto, unfolding(crate::specs::CombinatorLaws::fixed_at))]
 pub(crate) fn read_head(cursor: &mut Cursor<'_>, place: u32) -> Result<i64, Malformed>
     ensures { Takes ((record_head place).reading cursor.old) result cursor.new }
@@ -84,7 +85,7 @@ pub(crate) fn read_head(cursor: &mut Cursor<'_>, place: u32) -> Result<i64, Malf
     Ok(timestamp_delta)
 }
 
-/// Reads a record without the length before it, at this place in its batch.
+/// Reads a record without the length before it. `place` is its place in its batch, counted from 0.
 fn read_parts(alloc: Global, cursor: &mut Cursor<'_>, place: u32) -> Result<Rec, ReadFault>
     ensures { Reads ((record_parts place).reading cursor.old) result cursor.new }
 {
@@ -100,7 +101,8 @@ fn read_parts(alloc: Global, cursor: &mut Cursor<'_>, place: u32) -> Result<Rec,
     })
 }
 
-/// Reads a record of `len` bytes at this place in its batch; `Malformed::Rest` if it doesn't fill all of them.
+/// As `read_parts`, for a record that has to fill `len` bytes: `Malformed::Rest` where it takes fewer, `Malformed::Short` where
+/// it needs more.
 #[tactic(auto, unfolding(crate::specs::CombinatorLaws::whole_value))]
 fn read_filled(
     alloc: Global,
@@ -119,7 +121,7 @@ fn read_filled(
     Ok(rec)
 }
 
-/// Reads a record with the length before it, at this place in its batch.
+/// Reads a record with its length before it, as a VARINT. `place` is its place in its batch, counted from 0.
 #[tactic(auto, using(crate::proofs::Sized::sized_after, crate::proofs::Sized::sized_refused))]
 fn read_record(alloc: Global, cursor: &mut Cursor<'_>, place: u32) -> Result<Rec, ReadFault>
     ensures { Reads (record_at place cursor.old) result cursor.new }
@@ -129,7 +131,7 @@ fn read_record(alloc: Global, cursor: &mut Cursor<'_>, place: u32) -> Result<Rec
 }
 
 impl Rec {
-    /// The record with its offset, which is its batch's base offset and its place in the batch.
+    /// The record with its offset, which is its batch's base offset plus its place in the batch. The sum has to fit in an `i64`.
     fn at(self, header: &BatchHeader, place: u32) -> RecordAt
         requires { FitsSigned w64 (header.now.base_offset +ℤ pos place) }
         ensures { result ≡ record_at_place header.now.base_offset place self }
@@ -141,7 +143,8 @@ impl Rec {
     }
 }
 
-/// Reads the `count` records of a batch, which stand one after the other, and gives them with their offsets.
+/// Reads the `count` records of a batch, which stand one after the other, and returns them with their offsets. The offset after
+/// the last has to fit in an `i64`.
 pub(crate) fn read_records(
     alloc: Global,
     cursor: &mut Cursor<'_>,

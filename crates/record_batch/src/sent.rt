@@ -1,4 +1,4 @@
-//! What a producer sent as a batch, which is looked at once.
+//! What a producer sent as a batch, which is checked once.
 
 ghost use Rattle.std.specs.Prelude.{◌≡◌, length, IfOk, None};
 ghost use Rattle.record_batch.specs.Batch.{IsBatch};
@@ -11,8 +11,8 @@ use crate::header::BatchHeader;
 use std::marker::Model;
 use wire_types::Bytes;
 
-/// Bytes that a producer sent as a batch, seen as these bytes, and the first fault that was found in them, whatever their
-/// number. Who takes the batch asks for it without looking at the bytes again.
+/// Bytes that a producer sent as a batch, and the first fault that was found in them, their size aside. Contracts see the bytes.
+/// They are checked where they are decoded, and not again where they are appended.
 #[derive(Debug, Clone)]
 pub struct SentBatch {
     bytes: Bytes,
@@ -40,8 +40,8 @@ impl Drop for SentBatch {
 }
 
 impl SentBatch {
-    /// Checks bytes that a producer sent as a batch, and keeps the first fault with them. It copies nothing and allocates
-    /// nothing.
+    /// Checks bytes that a producer sent as a batch, whatever their number, and keeps the first fault with them. It copies
+    /// nothing and allocates nothing.
     pub fn of(bytes: Bytes) -> SentBatch
         ensures { result ≡ bytes }
     {
@@ -63,8 +63,8 @@ impl SentBatch {
         self.bytes.len()
     }
 
-    /// The batch, if it has no fault and at most `max` bytes; else the first fault. It doesn't look at the bytes again, so
-    /// it takes as long for large batches as for small ones.
+    /// The batch, if it has no fault and at most `max` bytes; else the first fault, `TooLarge` last. It doesn't check the bytes
+    /// again, so it takes as long for large batches as for small ones.
     pub fn batch(self, max: u32) -> Result<Batch, BatchFault>
         ensures fault { fault_in result ≡ first_fault max self }
         ensures batch { IfOk result (λ b. (b.bytes ≡ self) × (b.marker ≡ None) × IsBatch b) }

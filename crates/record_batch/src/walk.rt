@@ -1,4 +1,4 @@
-//! Walking over records, which takes no memory and keeps nothing.
+//! Walking over records, which takes no memory and keeps nothing. Each function refuses just what its reading counterpart does.
 
 ghost use Rattle.std.specs.Prelude.{◌≡◌, MatchResult, Ok, Err, is_ok};
 ghost use Rattle.wire_types.specs.Reading.{Takes, skipped_if_found, many_at};
@@ -9,7 +9,8 @@ ghost use Rattle.record_batch.specs.Record.{header, record_parts, record_at, rec
 use crate::record::read_head;
 use wire_types::{Cursor, Malformed};
 
-/// Reads bytes with their length before them, as a header's key has it: a varint that isn't negative.
+/// Reads bytes with their length before them as a VARINT, as a header's key has it. `Malformed::Range` for a negative length,
+/// `Malformed::Short` where fewer bytes are left.
 #[tactic(auto, using(wire_types::proofs::Announced::content_after, wire_types::proofs::Announced::front_refused))]
 fn read_bytes<'a>(cursor: &mut Cursor<'a>) -> Result<&'a [u8], Malformed>
     ensures { MatchResult result (λ x. varint_bytes.reading cursor.old ≡ Ok (x.now, cursor.new))
@@ -19,7 +20,8 @@ fn read_bytes<'a>(cursor: &mut Cursor<'a>) -> Result<&'a [u8], Malformed>
     cursor.read_front(len as usize)
 }
 
-/// Passes over bytes with their length before them, as a varint; length -1 is null. `Malformed::Range` for a lesser length.
+/// Passes over bytes with their length before them as a VARINT, where -1 is null. `Malformed::Range` for a lesser length,
+/// `Malformed::Short` where fewer bytes are left.
 #[tactic(auto, unfolding(wire_types::specs::Reading::after_null_count_at, wire_types::specs::Reading::null_or, wire_types::specs::Reading::null_count_at, wire_types::specs::Reading::null_or_count))]
 fn skip_nullable_bytes(cursor: &mut Cursor<'_>) -> Result<(), Malformed>
     ensures { Takes (skipped_if_found (varint_nullable_bytes.reading cursor.old)) result
@@ -63,7 +65,7 @@ fn skip_headers(cursor: &mut Cursor<'_>) -> Result<(), Malformed>
     skip_some_headers(cursor, count)
 }
 
-/// Passes over a record without the length before it, at this place in its batch.
+/// Passes over a record without the length before it. `place` is its place in its batch, counted from 0.
 fn skip_parts(cursor: &mut Cursor<'_>, place: u32) -> Result<(), Malformed>
     ensures { Takes (skipped_if_found ((record_parts place).reading cursor.old)) result cursor.new }
 {
@@ -73,7 +75,8 @@ fn skip_parts(cursor: &mut Cursor<'_>, place: u32) -> Result<(), Malformed>
     skip_headers(cursor)
 }
 
-/// Passes over a record of `len` bytes at this place in its batch; `Malformed::Rest` if it doesn't fill all of them.
+/// As `skip_parts`, for a record that has to fill `len` bytes: `Malformed::Rest` where it takes fewer, `Malformed::Short` where
+/// it needs more.
 #[tactic(auto, unfolding(crate::specs::CombinatorLaws::whole_value))]
 fn skip_filled(cursor: &mut Cursor<'_>, place: u32, len: u32) -> Result<(), Malformed>
     ensures { Takes (skipped_if_found (filled_at (record_parts place).reading len cursor.old))
@@ -87,7 +90,7 @@ fn skip_filled(cursor: &mut Cursor<'_>, place: u32, len: u32) -> Result<(), Malf
     Ok(())
 }
 
-/// Passes over a record with the length before it, at this place in its batch.
+/// Passes over a record with its length before it, as a VARINT. `place` is its place in its batch, counted from 0.
 #[tactic(auto, using(crate::proofs::Sized::sized_after, crate::proofs::Sized::sized_refused))]
 fn skip_record(cursor: &mut Cursor<'_>, place: u32) -> Result<(), Malformed>
     ensures { Takes (skipped_if_found (record_at place cursor.old)) result cursor.new }
@@ -106,7 +109,7 @@ fn skip_records(cursor: &mut Cursor<'_>, count: u32) -> Result<(), Malformed>
     Ok(())
 }
 
-/// Whether the bytes are exactly `count` well-formed records of a batch.
+/// Whether the bytes are exactly `count` well-formed records of a batch, the first at place 0, and no bytes more.
 #[tactic(auto, unfolding(crate::specs::CombinatorLaws::whole_value))]
 pub(crate) fn are_records(bytes: &[u8], count: u32) -> bool
     ensures { result ≡ is_ok (all_records count bytes.now) }

@@ -1,9 +1,9 @@
-//! Hands the events of a script to a core, and asks once more for the one that was stopped; or serves a session. It is for
+//! Hands the events of a script to a core, and once more the one that was stopped; or serves a session. It is for
 //! `tests/refused_memory/test_refused_runs.py` and `test_refused_sessions.py`, which refuse each of its allocations in turn.
 //!
 //! Standard input is settings, a line `---`, and a line for each event: `mark`, `tick N`, or `USER HOST FRAME`, the frame in
-//! hexadecimal digits and without its size field. The argument says whether the core is handed them as a list (`run`) or
-//! one by one (`step`). With `session` each line is a frame with its size field, and all are one session's.
+//! hexadecimal digits and without its size field. The argument says whether the core is handed them as a list (`run`) or one by
+//! one (`step`). With `session` each line is a frame with its size field, and all are one session's.
 #![tactic(auto)]
 
 mod session;
@@ -28,7 +28,7 @@ use wire_types::{Boxed, Bytes, Shared, Text};
 /// The exit status where the core was never opened, or the script can't be read.
 const NOT_BEGUN: u8 = 3;
 
-/// A client's id in a block of its own, or none. The outer `None` is an allocation failure.
+/// The client id in a block of its own, if there is one. The outer `None` is an allocation failure.
 fn boxed(alloc: Global, client: Option<Text>) -> Option<Option<Boxed<Text>>> {
     match client {
         Some(client) => Some(Some(Boxed::new(alloc, client).ok()?)),
@@ -36,8 +36,8 @@ fn boxed(alloc: Global, client: Option<Text>) -> Option<Option<Boxed<Text>>> {
     }
 }
 
-/// The event of a request, as asked by this user at this host: its frame comes in hexadecimal digits. `None` where it is no
-/// request that is served, or after an allocation failure.
+/// The event of a request of the principal `User:USER` at this host, whose frame comes in hexadecimal digits, without its size
+/// field. `None` where the frame is no request that is served, or after an allocation failure.
 fn asked(alloc: Global, user: &str, host: &str, digits: &str) -> Option<Event>
     ensures { IfSome result EventFits }
 {
@@ -75,7 +75,8 @@ fn event_of(alloc: Global, line: &str) -> Option<Event>
     asked(alloc, first, host, digits)
 }
 
-/// The events of all lines of a script. `None` where a line is no event, or after an allocation failure.
+/// The events of all lines of a script that end with a line feed. `None` where such a line is no event, or after an allocation
+/// failure.
 #[tactic(auto, using(crate::proofs::Fits::fits_more))]
 fn events_of(alloc: Global, script: &str) -> Option<Vec<Event>>
     ensures { IfSome result (λ events. AllByRecursion EventFits events.items) }
@@ -93,8 +94,8 @@ fn events_of(alloc: Global, script: &str) -> Option<Vec<Event>>
     Some(events)
 }
 
-/// The event of the script's line at this place, counted from 0. `None` where there is no such line, or after an allocation
-/// failure.
+/// The event of the script's line at this place, counted from 0. `None` where there is no such line, or it is no event, or after
+/// an allocation failure.
 fn event_at(alloc: Global, script: &str, place: usize) -> Option<Event>
     ensures { IfSome result EventFits }
 {
@@ -107,7 +108,8 @@ fn event_at(alloc: Global, script: &str, place: usize) -> Option<Event>
     event_of(alloc, line)
 }
 
-/// Hands so many events of a script to the core one by one, up to the first stop. Gives the receipts, and the stop.
+/// Hands the first `count` events of a script to the core one by one, up to the first stop. Returns the receipts, and the stop,
+/// if there was one. The error is an allocation failure outside the core.
 fn step_each(
     alloc: Global,
     core: &mut Core,
@@ -127,7 +129,8 @@ fn step_each(
     Ok((receipts, None))
 }
 
-/// The line that is printed for an event: its place in the trail and its response, or `stop N`.
+/// The line that is printed for an event: its place in the trail and its response under correlation id 0, or `stop N`. The error
+/// is an allocation failure, or that the reply is too long.
 fn told(alloc: Global, outcome: &Result<Receipt, Stop>) -> Result<String, AllocError> {
     match outcome {
         Ok(receipt) => match write_reply(alloc, 0, receipt.reply()) {
@@ -144,7 +147,7 @@ fn told(alloc: Global, outcome: &Result<Receipt, Stop>) -> Result<String, AllocE
     }
 }
 
-/// Whether the trail has an entry for each of these receipts, with its event and its reply, and no others.
+/// Whether the trail's entries are the events and replies of these receipts, in order, and no others.
 fn is_history(core: &Core, receipts: &[Receipt]) -> bool {
     let trail = core.trail();
     for (place, receipt) in receipts.iter().enumerate() {
@@ -158,8 +161,8 @@ fn is_history(core: &Core, receipts: &[Receipt]) -> bool {
     trail.len() == receipts.len()
 }
 
-/// Prints a line for each receipt and for the stop, and how long the trail is, if it has just these entries. The event that was
-/// stopped is then handed in once more, and its line printed.
+/// Prints a line for each receipt and for the stop, then `trail N`, how long the trail is, if it has just the receipts' entries,
+/// else `another trail`. The event that was stopped is then handed in once more, and its line printed.
 fn tell<W: Write>(
     alloc: Global,
     core: &mut Core,
@@ -197,8 +200,9 @@ fn open(alloc: Global, settings: &str) -> Option<Core> {
     Core::open_checked(alloc, document.settings).ok()
 }
 
-/// Hands the events of a script to a core, all in one call or one by one, and prints what came of them. The exit status is 3
-/// where the core can't be opened, or a line is no event.
+/// Hands the events of a script to a core, all in one call (`at_once`) or one by one, and prints what came of them. The exit
+/// status is 0, or 3 where the core can't be opened or a line is no event, or an allocation fails for them. The error is a later
+/// allocation failure outside the core, a reply that is too long, or a failed write.
 fn hand_in<W: Write>(
     alloc: Global,
     settings: &str,
@@ -218,8 +222,8 @@ fn hand_in<W: Write>(
     Ok(ExitCode::SUCCESS)
 }
 
-/// Reads the settings and the script from standard input, and runs the script as the arguments say: `run`, `step` or `session`.
-/// The exit status is 3 where that can't begin.
+/// Reads the settings and the script from standard input, and runs the script as the arguments say: `run`, `step`, which is the
+/// default, or `session`. The exit status is 3 where that can't begin.
 fn main(rt: HostRuntime) -> io::Result<ExitCode> {
     let alloc = rt.alloc();
     let words: Vec<String> = std::env::args(&rt)?.collect(alloc)?;

@@ -17,15 +17,15 @@ use wire_types::Text;
 /// How many bytes may be written in a session without more memory for them.
 const ROOM: usize = 4_096;
 
-/// Who asks and is answered, and what a session needs of its own before it begins.
+/// What a session needs before it begins: its core, its users, its host, and its bytes.
 #[derive(Drop)]
 pub(crate) struct Script {
     core: Core,
     users: Users,
     host: Text,
-    /// All frames, one after the other.
+    /// All frames, one after the other, with their size fields.
     input: Vec<u8>,
-    /// What is written.
+    /// What is written to the session, with room for 4,096 bytes.
     output: Vec<u8>,
 }
 
@@ -37,7 +37,7 @@ struct Came {
     output: Vec<u8>,
 }
 
-/// The bytes that lines of hexadecimal digits spell, one after the other. `None` where they spell none, or after an allocation
+/// The bytes that lines of hexadecimal digits spell, one after the other. `None` where a line spells none, or after an allocation
 /// failure.
 fn bytes_of(alloc: Global, lines: &str) -> Option<Vec<u8>> {
     let mut bytes = Vec::new(alloc);
@@ -49,8 +49,8 @@ fn bytes_of(alloc: Global, lines: &str) -> Option<Vec<u8>> {
 }
 
 impl Script {
-    /// The script of a session: a core and users by these settings, and the frames that are sent, a line of hexadecimal digits
-    /// each. `None` where they can't be read, or after an allocation failure.
+    /// The script of a session: a core and users by these settings, the host 10.0.0.5, and the frames that are sent, a line of
+    /// hexadecimal digits each. `None` where the settings or the frames can't be read, or after an allocation failure.
     pub(crate) fn of(alloc: Global, settings: &str, frames: &str) -> Option<Script>
         ensures { IfSome result (λ script. script.core.trail ≡ []) }
     {
@@ -65,7 +65,7 @@ impl Script {
     }
 }
 
-/// Serves the session at a desk with the blank's seats, and tells what came of it; `None` where no seat is left.
+/// Serves the session at a desk with the blank's seats, and returns what came of it; `None` where the desk gives no seat.
 fn serve_at<L: DeskLedger, R: Wait + Drop>(
     rt: R,
     alloc: Global,
@@ -106,14 +106,15 @@ fn serve_at<L: DeskLedger, R: Wait + Drop>(
     })
 }
 
-/// Serves the session at a desk of its own, and tells what came of it.
+/// As `serve_at`, with a ledger of its own.
 fn serve<R: Wait + Drop>(rt: R, alloc: Global, script: Script) -> Option<Came>
     requires { script.core.trail ≡ [] }
 {
     serve_at::<Brand, R>(rt, alloc, Blank::new(MOST_SEATS + 1), script)
 }
 
-/// Serves the session, and prints how many receipts it has, what was written to it, and why it ended.
+/// Serves the session, and prints `receipts N`, `written HEX`, all that was written to it, and `end WHY`. The error is an
+/// allocation failure, or a failed write.
 pub(crate) fn tell<R: Wait + Drop, W: Write>(
     rt: R,
     alloc: Global,

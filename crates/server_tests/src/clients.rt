@@ -1,4 +1,4 @@
-//! Whoever connects: the frames that are sent, the answers that are due, and one session over any reader and writer.
+//! A client's frames and the answers that are due, and one session over any reader and writer.
 
 ghost use Rattle.std.specs.Prelude.{◌≡◌, ◌+◌, ◌≤◌, []};
 ghost use Rattle.msg_admin.specs.declared.request.TheConstants.{FRAME_LIMIT as LIMIT};
@@ -17,7 +17,7 @@ use std::sync::ledger::Blank;
 use std::test::Fail;
 use wire_types::Text;
 
-/// The topic `b` is described to ann, who may log in; the trail takes three events.
+/// Ann and bob may log in, the topic `b` is described to ann, and the trail takes three events.
 const SETTINGS: &str =
     "node_id = 1\nhost = \"h\"\nport = 9092\nsupers = [\"User:root\"]\ntrail_limit = 3\n\
     [[user]]\nname = \"ann\"\npassword = \"pw\"\n[[user]]\nname = \"bob\"\npassword = \"other\"\n\
@@ -30,7 +30,7 @@ pub(crate) const HANDSHAKE: &str = "000000110011000100000001ffff0005504c41494e";
 
 pub(crate) const HANDSHAKE_TOLD: &str = "00000011000000010000000000010005504c41494e";
 
-/// Ann tells her password.
+/// Ann logs in with her password.
 pub(crate) const LOGIN: &str = "000000150024000000000002ffff0000000700616e6e007077";
 
 pub(crate) const LOGIN_TOLD: &str = "0000000c000000020000ffff00000000";
@@ -46,13 +46,13 @@ pub(crate) const METADATA_TOLD: &str = "00000041000000010000000100000001000168\
 pub(crate) struct End {
     pub(crate) why: EndReason,
     pub(crate) receipts: usize,
-    /// The place of the first of them.
+    /// The place of the first receipt in the trail; `None` without one.
     pub(crate) place: Option<u64>,
-    /// What its seat counts.
+    /// How many events were answered by its seat.
     pub(crate) count: u64,
 }
 
-/// Serves one session, of the number 7, at a desk of its own, and tells how it ended.
+/// Serves one session, of the number 7, at a desk with the blank's seats, and returns how it ended.
 fn serve_on<L: DeskLedger, R: Wait + Drop, Rd: Read + Drop, Wr: Write, G: Gate>(
     rt: R,
     alloc: Global,
@@ -88,7 +88,8 @@ fn serve_on<L: DeskLedger, R: Wait + Drop, Rd: Read + Drop, Wr: Write, G: Gate>(
     })
 }
 
-/// Serves one session of a peer at this host by `SETTINGS`, calls the gate round each of its frames, and tells how it ended.
+/// Serves one session, of the number 7, of a peer at this host, by `SETTINGS` at a desk of its own, with this gate, and returns
+/// how it ended.
 pub(crate) fn serve_gated<R: Wait + Drop, Rd: Read + Drop, Wr: Write, G: Gate>(
     rt: R,
     alloc: Global,
@@ -120,7 +121,7 @@ pub(crate) fn serve_gated<R: Wait + Drop, Rd: Read + Drop, Wr: Write, G: Gate>(
     )
 }
 
-/// Serves one session of a peer at 10.0.0.5 by `SETTINGS`, and tells how it ended.
+/// As `serve_gated`, of a peer at 10.0.0.5, with a gate that does nothing.
 pub(crate) fn serve<R: Wait + Drop, Rd: Read + Drop, Wr: Write>(
     rt: R,
     alloc: Global,
@@ -133,7 +134,8 @@ pub(crate) fn serve<R: Wait + Drop, Rd: Read + Drop, Wr: Write>(
     serve_gated(rt, alloc, "10.0.0.5", reader, writer, limits, &())
 }
 
-/// The bytes that texts of hexadecimal digits spell, one after the other.
+/// The bytes that texts of hexadecimal digits spell, one after the other. The error is a text that spells none, or an allocation
+/// failure.
 pub(crate) fn bytes_of(alloc: Global, parts: &[&str]) -> Result<Vec<u8>, Fail> {
     let mut bytes = Vec::new(alloc);
     for part in parts {

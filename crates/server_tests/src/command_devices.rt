@@ -10,10 +10,10 @@ use std::test::Fail;
 const INPUT: &[u8] =
     b"node_id = 1\nhost = \"h\"\nport = 1\n---\nreq a h 00000000\nreq a h 00000000\nreq a h 00\n";
 
-/// What is written for it.
+/// What `replay` writes for `INPUT`.
 const ANSWER: &[u8] = b"closed\nclosed\nline 3: unreadable\n";
 
-/// A reader of one byte at a time, that fails once it has made so many reads.
+/// A reader of one byte at a time, that fails after so many reads.
 #[derive(Drop)]
 struct Failing<'a> {
     bytes: &'a [u8],
@@ -33,7 +33,7 @@ impl Read for Failing<'_> {
     }
 }
 
-/// A writer of one byte at a time, that fails once it has made so many writes.
+/// A writer of one byte at a time, that keeps what is written, and fails after so many writes.
 #[derive(Drop)]
 struct Narrow {
     held: Vec<u8>,
@@ -57,7 +57,8 @@ impl Write for Narrow {
     }
 }
 
-/// `replay` whose input fails at each of its reads in turn ends with the status 1 and writes nothing.
+/// Where a read of its input fails, `replay` ends with the status 1 and writes nothing; it writes where the read succeeds that
+/// finds the input's end.
 #[test]
 fn failing_reads(rt: HostRuntime) -> Result<(), Fail> {
     for reads in 0..INPUT.len() + 2 {
@@ -73,7 +74,7 @@ fn failing_reads(rt: HostRuntime) -> Result<(), Fail> {
     Ok(())
 }
 
-/// `replay` whose output fails at each of its writes in turn ends with the status 1, and the answer's front is written.
+/// Where a write of its output fails, `replay` ends with the status 1, and the answer's front is written.
 #[test]
 fn failing_writes(rt: HostRuntime) -> Result<(), Fail> {
     for writes in 0..ANSWER.len() + 1 {

@@ -140,7 +140,8 @@ fn endless_goes_without_a_number(rt: HostRuntime) {
     }
 }
 
-/// Each number of `serve` is taken at both ends of its range, and refused one below and one above.
+/// Each number of `serve`, but for those of `--for`, `--idle` and `--grace`, is taken at both ends of its range, and refused one
+/// below and one above.
 #[test]
 fn numbers_at_their_limits(rt: HostRuntime) {
     for (option, number, is_served) in [

@@ -26,7 +26,7 @@ const SHORT_SETTINGS: &str =
     "node_id = 1\nhost = \"h\"\nport = 9092\nsupers = [\"User:root\"]\ntrail_limit = 3\n\
     [[topic]]\nname = \"b\"\npartitions = 1\n";
 
-/// What ann is refused there.
+/// The audit lines of what ann is refused by `SHORT_SETTINGS`.
 const REFUSED: &str = "unmatched DESCRIBE Topic b User:ann 10.0.0.5\n\
     unmatched WRITE TransactionalId t User:ann 10.0.0.5\n\
     unmatched WRITE TransactionalId t User:ann 10.0.0.5\n";
@@ -109,7 +109,8 @@ const FETCHED_MARKER: &str =
     ffff0000004e000000000000000000000042000000000215a1776500300000000000000000000003e9000000000000\
     03e900000000000000000001ffffffff000000012000000008000000000c00000000000000";
 
-/// What a core answers to somebody's frame of the correlation id 7: the response in hexadecimal digits.
+/// What a core answers to somebody's frame, under correlation id 7: the response in hexadecimal digits. An error where the frame
+/// is no request or is stopped.
 fn told(alloc: Global, core: &mut Core, who: &str, frame: &str) -> Result<String, Fail> {
     let event = event_by(alloc, who, frame).ok_or("event")?;
     let receipt = core.step(event).ok().ok_or("stopped")?;
@@ -117,7 +118,7 @@ fn told(alloc: Global, core: &mut Core, who: &str, frame: &str) -> Result<String
     Ok(hex::encode(alloc, written.as_slice())?)
 }
 
-/// Whether a step that nobody asked for gives this reply, which isn't sent.
+/// Whether a core gives this reply to an event, such as a mark or a tick.
 fn replies(core: &mut Core, event: Event, reply: Reply) -> bool
     requires { EventFits event }
 {
@@ -127,7 +128,8 @@ fn replies(core: &mut Core, event: Event, reply: Reply) -> bool
     }
 }
 
-/// Commits a transaction of one partition and one group, and then denies its owner the transactional id.
+/// Commits a transaction of ann with one partition and one group, and then denies her the transactional id; an error where an
+/// answer isn't the one that is due.
 fn deny_owner(alloc: Global, core: &mut Core) -> Result<(), Fail> {
     for (who, frame, answer) in [
         (ANN, INIT, INIT_TOLD),
@@ -223,7 +225,7 @@ fn a_marker_owed_when_time_is_over(rt: HostRuntime) -> Result<(), Fail> {
     Ok(())
 }
 
-/// Whether a trail's entries are those of these receipts, in order, and no others.
+/// Whether a trail's entries are the events and replies of these receipts, in order, and no others.
 fn is_of(trail: &Trail, receipts: &[Receipt]) -> bool {
     for (place, receipt) in receipts.iter().enumerate() {
         match trail.entry(place) {
@@ -236,7 +238,7 @@ fn is_of(trail: &Trail, receipts: &[Receipt]) -> bool {
     trail.len() == receipts.len()
 }
 
-/// The audit lines of all refusals in a trail.
+/// The audit lines of all refusals in a trail, in its order.
 fn refused(alloc: Global, trail: &Trail) -> Result<String, Fail> {
     let mut text = String::new(alloc);
     for place in 0..trail.len() {

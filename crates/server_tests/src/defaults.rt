@@ -1,4 +1,4 @@
-//! What settings have in the place of what their text leaves out, and the plain call that checks them itself.
+//! What settings are where their text leaves something out, and that `Core::open` checks settings itself.
 
 use request_handlers::Core;
 use settings::OpenFault;
@@ -32,7 +32,7 @@ fn what_is_left_out(rt: HostRuntime) -> Result<(), Fail> {
     Ok(())
 }
 
-/// Why no core is opened with settings of this port; `None` where one is.
+/// Why `Core::open` opens no core with the settings of `REQUIRED` and this port; `None` where it opens one.
 fn fault_of(alloc: Global, port: i64) -> Result<Option<OpenFault>, Fail> {
     let Document { settings, .. } = document_of_text(alloc, REQUIRED.as_bytes())
         .ok()

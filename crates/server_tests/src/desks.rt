@@ -1,4 +1,4 @@
-//! A desk's seats, and who is called round each frame.
+//! A desk's seats, and the calls of a gate round each frame.
 
 ghost use Rattle.std.specs.Prelude.{◌≡◌, ◌+◌, []};
 ghost use Rattle.request_handlers.specs.Seats.{most_seats};
@@ -15,7 +15,7 @@ use std::sync::ledger::Blank;
 use std::test::Fail;
 use wire_types::Text;
 
-/// Counts its calls, and adds up the frames that it was called with.
+/// A gate that counts its calls, and adds up the numbers of the frames that it was called with.
 #[derive(Drop)]
 struct Counting {
     befores: AtomicU64,
@@ -26,8 +26,8 @@ struct Counting {
 }
 
 impl Counting {
-    /// How many calls came before a frame, for ann's login and after a frame; the sum of the frames' numbers; and how many calls
-    /// were of other sessions than 7, or of other users.
+    /// The numbers of calls: before a frame, for the login of ann in session 7, and after a frame; then the sum of the frames'
+    /// numbers over both kinds of calls; and how many calls were of other sessions than 7, or for other users.
     fn counts(&self) -> [u64; 5] {
         [
             self.befores.load(Ordering::SeqCst),
@@ -48,7 +48,7 @@ impl Gate for Counting {
             .fetch_add(u64::from(session != 7), Ordering::SeqCst);
     }
 
-    /// Counts the call, if it is for ann.
+    /// Counts the call: as a login, if it is ann's in session 7, else among the others.
     fn logged_in(&self, session: u64, who: &Text) {
         let is_ann = session == 7 && who.as_bytes() == b"User:ann".as_slice();
         self.logins.fetch_add(u64::from(is_ann), Ordering::SeqCst);
@@ -92,7 +92,7 @@ fn round_each_frame(rt: HostRuntime) -> Result<(), Fail> {
     Ok(())
 }
 
-/// How many seats a desk gives that is asked for so many.
+/// How many seats a desk of this core gives when it is asked `asked` times.
 fn given_on<L: DeskLedger, R: Wait + Drop>(
     rt: R,
     core: Core,
@@ -112,7 +112,7 @@ fn given_on<L: DeskLedger, R: Wait + Drop>(
     Ok(given)
 }
 
-/// How many seats a new desk gives that is asked for so many.
+/// As `given_on`, for a new desk.
 fn given<R: Wait + Drop>(rt: R, alloc: Global, asked: u64) -> Result<u64, Fail> {
     let text = b"node_id = 1\nhost = \"h\"\nport = 1\n".as_slice();
     let Document { settings, .. } = document_of_text(alloc, text).ok().ok_or("settings")?;

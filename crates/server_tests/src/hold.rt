@@ -12,16 +12,16 @@ use wire_types::{Shared, Text};
 /// How far the two sessions have come.
 #[derive(Drop)]
 pub(crate) struct Flags {
-    /// Session 1 is held.
+    /// Not 0 once session 1 is held.
     pub(crate) held: AtomicU64,
-    /// Session 2 was served.
+    /// Not 0 once session 2 was served.
     pub(crate) served: AtomicU64,
-    /// A wait ran out.
+    /// Not 0 once a wait ran out.
     pub(crate) late: AtomicU64,
 }
 
 impl Flags {
-    /// Neither session has come to anything yet.
+    /// Flags of which none is set.
     pub(crate) fn new() -> Flags {
         Flags {
             held: AtomicU64::new(0),
@@ -30,7 +30,7 @@ impl Flags {
         }
     }
 
-    /// Waits until a flag is set, for at most 10,000 turns of a millisecond; then `late` is set.
+    /// Waits until a flag is set, for at most 10,000 sleeps of a millisecond; then sets `late`.
     fn wait<R: time::Clock>(&self, rt: &R, flag: &AtomicU64) {
         for _ in 0..10_000 {
             if flag.load(Ordering::SeqCst) != 0 {
@@ -41,7 +41,7 @@ impl Flags {
         self.late.store(1, Ordering::SeqCst);
     }
 
-    /// Holds session 1 until session 2 was served.
+    /// Sets `held`, and waits until session 2 was served, or that wait runs out.
     fn hold<R: time::Clock>(&self, rt: &R) {
         self.held.store(1, Ordering::SeqCst);
         self.wait(rt, &self.served);
@@ -57,18 +57,18 @@ pub(crate) enum Place {
     Read,
 }
 
-/// Holds session 1 before its first frame, if it is held there, and lets session 2 begin once session 1 is held.
+/// A gate that holds session 1 before its first frame, if that is the place, and has session 2 wait until session 1 is held.
 #[derive(Drop)]
 pub(crate) struct Hold<R: time::Clock + Drop> {
     pub(crate) rt: R,
     pub(crate) flags: Shared<Flags>,
     pub(crate) place: Place,
-    /// The last frame of session 2.
+    /// The number of session 2's last frame, counted from 0.
     pub(crate) last: u64,
 }
 
 impl<R: time::Clock + Drop> Gate for Hold<R> {
-    /// Holds session 1 before its first frame, if it is held there, and session 2 until session 1 is held.
+    /// Before a session's first frame: holds session 1, if it is held there, and has session 2 wait until session 1 is held.
     fn before(&self, session: u64, frame: u64) {
         let flags = self.flags.value();
         if frame != 0 {
@@ -92,7 +92,7 @@ impl<R: time::Clock + Drop> Gate for Hold<R> {
     }
 }
 
-/// A session's input, whose first read is held where it says so.
+/// A session's input, whose first read is held where `holds` says so.
 #[derive(Drop)]
 pub(crate) struct Talk<R: time::Clock + Drop> {
     pub(crate) rt: R,
@@ -113,7 +113,7 @@ impl<R: time::Clock + Drop> Read for Talk<R> {
 
     ghost remaining = { λ _. None };
 
-    /// Holds session 1 at its first read, if it is held there, and reads its input.
+    /// Holds the session at its first read, if `holds` says so, and reads its input.
     fn read(&mut self, piece: &mut [u8]) -> io::Result<usize> {
         if self.holds {
             self.holds = false;
@@ -123,7 +123,7 @@ impl<R: time::Clock + Drop> Read for Talk<R> {
     }
 }
 
-/// Keeps what a session is answered, for whoever shares the bytes.
+/// A session's output: keeps what is written in bytes that a test shares.
 #[derive(Drop)]
 pub(crate) struct Answers<R: Wait + Drop> {
     pub(crate) rt: R,

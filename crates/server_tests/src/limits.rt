@@ -12,7 +12,7 @@ use std::alloc::Global;
 use std::sync::Wait;
 use std::test::Fail;
 
-/// How a session of these frames ends that may ask as much as the limits say.
+/// How a session ends that sends these frames, under these limits.
 fn end_of<R: Wait + Drop>(
     rt: R,
     alloc: Global,
@@ -26,7 +26,7 @@ fn end_of<R: Wait + Drop>(
     serve(rt, alloc, input.as_slice(), &mut written, limits)
 }
 
-/// A session is served as many frames as its limit says, and its input isn't looked at after them.
+/// A session ends with `Limit` after as many frames as its limit says, and its input isn't looked at after them.
 #[test]
 fn as_many_frames_as_are_served(rt: HostRuntime) -> Result<(), Fail> {
     for frames in 0..5u64 {
@@ -77,7 +77,7 @@ fn the_first_receipt(rt: HostRuntime) -> Result<(), Fail> {
     Ok(())
 }
 
-/// A frame as long as the limit is served, and one byte more is a fault.
+/// A frame as long as the limit is served; one that is longer is a `BadFrame`.
 #[test]
 fn the_longest_frame(rt: HostRuntime) -> Result<(), Fail> {
     for frame in 15..19u32 {

@@ -1,4 +1,4 @@
-//! The log for an operator: messages are written in their order, and those that the full queue drops are counted, and told of.
+//! The log for an operator: messages are written in their order, and those that the full queue drops are counted.
 
 use admission::Doorman;
 use broker_keeping::OperatorLog;
@@ -15,7 +15,7 @@ use wire_types::Text;
 /// So many messages wait for the writer.
 const WAITING: u64 = 1_024;
 
-/// Logs so many lines that the queue is full, and then three more, two of which are one message.
+/// Logs as many lines as fill the queue, and then two messages of three lines, which are dropped.
 fn fill<R: Wait + time::Clock>(alloc: Global, log: &OperatorLog<'_, R>) -> Result<(), Fail> {
     for number in 0..WAITING {
         log.info(format!(in alloc; "line {number}\n")?);
@@ -25,7 +25,7 @@ fn fill<R: Wait + time::Clock>(alloc: Global, log: &OperatorLog<'_, R>) -> Resul
     Ok(())
 }
 
-/// What the writer writes then: the lines that fill the queue, how many were left out, and these last words.
+/// What the writer writes after `fill`: the lines that fill the queue, that `dropped` lines were left out, and `last`.
 fn due(alloc: Global, dropped: u64, last: &str) -> Result<String, Fail> {
     let mut text = String::new(alloc);
     for number in 0..WAITING {
@@ -37,7 +37,8 @@ fn due(alloc: Global, dropped: u64, last: &str) -> Result<String, Fail> {
     Ok(text)
 }
 
-/// Says a line until the queue takes it, and gives how often it was left out.
+/// Logs the line `last` until the queue takes it, while a writer empties the queue, and returns how often it was dropped; an
+/// error after 10,000 tries.
 fn say_last<R: Wait + time::Clock>(
     rt: &R,
     alloc: Global,
@@ -67,7 +68,7 @@ fn what_has_no_room_is_counted(rt: HostRuntime) -> Result<(), Fail> {
     Ok(())
 }
 
-/// How many lines were dropped is told before the next message that goes into the queue.
+/// How many lines were dropped is written before the next message that goes into the queue.
 #[test]
 fn what_was_left_out_is_told_before_what_is_said_next(rt: HostRuntime) -> Result<(), Fail> {
     let alloc = rt.alloc();
@@ -100,7 +101,7 @@ fn a_writer_that_is_gone_is_not_waited_for(rt: HostRuntime) -> Result<(), Fail> 
     Ok(())
 }
 
-/// Logs that the sessions of these numbers ended inside a request.
+/// Logs that the sessions of these numbers, of nobody at 10.0.0.5, ended inside a request.
 fn cut<R: Wait + time::Clock>(
     alloc: Global,
     log: &OperatorLog<'_, R>,
@@ -113,7 +114,7 @@ fn cut<R: Wait + time::Clock>(
     Ok(())
 }
 
-/// Where the same is said of twelve sessions, the first is told in full, the next ten in one line, and the last at the end.
+/// Where the same is said of twelve sessions, the first is written in full, the next ten in one line, and the last at the end.
 #[test]
 fn the_same_of_further_sessions_is_counted(rt: HostRuntime) -> Result<(), Fail> {
     let alloc = rt.alloc();
@@ -130,8 +131,8 @@ kbroker: session 11 of nobody from 10.0.0.5: the connection was closed inside a 
     Ok(())
 }
 
-/// Messages about sessions are compared with the last four. Where one is forgotten, it is told first of how many more sessions it
-/// was said.
+/// Messages about sessions are compared with the last four. Where one of these is forgotten, it is written first of how many more
+/// sessions the same was said.
 #[test]
 fn the_latest_four_sayings_are_compared(rt: HostRuntime) -> Result<(), Fail> {
     let alloc = rt.alloc();
@@ -169,7 +170,7 @@ fn is_moment(text: &str) -> bool {
             || (*due == b'd' && byte.is_ascii_digit()))
 }
 
-/// What stands after the moment and this level at a line's front; `None` where the line doesn't begin so.
+/// What stands after the moment and this level at a line's front; `None` where the line doesn't begin with both.
 fn after_stamp<'a>(line: &'a str, level: &str) -> Option<&'a str> {
     let (moment, rest) = line.split_once(' ')?;
     let (told, rest) = rest.split_once(' ')?;

@@ -1,5 +1,5 @@
-//! A server over a bound listener: two clients log in on loopback, and each asks for all topics. And what ends the rest of
-//! whoever keeps a core's time.
+//! A server over a bound listener: two clients log in on loopback, and each asks for all topics. And what ends a keeper's rest at
+//! a desk.
 
 ghost use Rattle.std.specs.Prelude.{◌≡◌, ◌+◌, []};
 ghost use Rattle.request_handlers.specs.Seats.{most_seats};
@@ -30,10 +30,10 @@ use wire_types::Shared;
 pub(crate) const METADATA_TOLD: &str = "00000041000000030000000100000001000168\
     00002384ffff0000000100000001000000016200000000010000000000000000000100000001000000010000000100000001";
 
-/// So long each wait lasts at most, in seconds.
+/// How long each wait of these tests lasts at most, in seconds.
 pub(crate) const PATIENCE: u64 = 20;
 
-/// A writer that fails, as where whoever read has gone.
+/// A writer whose reader has gone: each write fails.
 #[derive(Drop)]
 struct Gone;
 
@@ -49,7 +49,8 @@ impl Write for Gone {
     }
 }
 
-/// Serves two connections of a listener, both at once, and gives the exit status and what was printed.
+/// Serves two connections of a listener, by two workers, with the log to `errors`, and returns the exit status and what was
+/// printed.
 fn serve_two<
     'x,
     R: Net<Listener = TcpListener, Stream = TcpStream> + Threads + Wait + time::Clock + Sync,
@@ -99,7 +100,8 @@ fn serve_two<
     (status, printed)
 }
 
-/// Connects, and sends all that a client sends that logs in, asks for all topics and has nothing more to say.
+/// Connects, logs in as ann, asks for all topics and closes the writing half, all before any answer is read. Returns the stream,
+/// whose reads wait at most 20 seconds.
 fn begin<R: Net<Stream = TcpStream>>(
     rt: &R,
     alloc: Global,
@@ -112,14 +114,14 @@ fn begin<R: Net<Stream = TcpStream>>(
     Ok(stream)
 }
 
-/// All that a client is sent, up to the end of the connection.
+/// All bytes that a client is sent, up to the end of the connection.
 fn told(alloc: Global, mut stream: TcpStream) -> Result<Vec<u8>, Fail> {
     let mut bytes = Vec::new(alloc);
     stream.read_to_end(&mut bytes)?;
     Ok(bytes)
 }
 
-/// What each of two clients is sent, where both have said all before the answers of the first are read.
+/// What each of two clients is sent, where both have sent all before the answers of the first are read.
 fn ask_twice<R: Net<Stream = TcpStream>>(
     rt: &R,
     alloc: Global,
@@ -157,7 +159,7 @@ fn two_clients_on_loopback(rt: HostRuntime) -> Result<(), Fail> {
     Ok(())
 }
 
-/// What a client is sent that comes after another one, whose connection ended inside its first frame.
+/// What a client is sent that comes after a connection which ended inside its first frame.
 fn ask_after_a_cut<R: Net<Stream = TcpStream>>(
     rt: &R,
     alloc: Global,
@@ -199,17 +201,17 @@ fn an_operator_that_has_gone(rt: HostRuntime) -> Result<(), Fail> {
 const OF_ANN: &str = "node_id = 1\nhost = \"h\"\nport = 9092\nsupers = [\"User:ann\"]\n\
     [[topic]]\nname = \"b\"\npartitions = 1\n";
 
-/// The transactional id `t` gets producer id 0 and epoch 0.
+/// Ann initializes the transactional id `t`, which gets producer id 0 and epoch 0.
 const INIT: &str = "000000110016000000000003ffff0001740000ea60";
 
-/// It takes in partition 0 of `b`.
+/// The transaction takes in partition 0 of `b`.
 const ADD: &str = "000000260018000000000004ffff000174000000000000000000000000000100016200000001\
     00000000";
 
-/// It commits.
+/// The transaction commits.
 const COMMIT: &str = "00000018001a000000000005ffff0001740000000000000000000001";
 
-/// Whether a rest of 20 seconds at a desk ends in the first ten, where it comes after these requests of ann.
+/// Whether a rest at a desk, of 20 seconds at most, ends within ten, after ann's requests in these frames were answered there.
 fn is_woken_on<L: DeskLedger, R: Wait + time::Clock + Copy>(
     rt: R,
     alloc: Global,
@@ -235,7 +237,7 @@ fn is_woken_on<L: DeskLedger, R: Wait + time::Clock + Copy>(
     Ok(start.elapsed(&rt)? < Duration::from_secs(10))
 }
 
-/// Whether a rest of 20 seconds at a new desk ends in the first ten, where it comes after these requests of ann.
+/// As `is_woken_on`, at a new desk by `OF_ANN`.
 fn is_woken<R: Wait + time::Clock + Copy>(
     rt: R,
     alloc: Global,

@@ -13,7 +13,7 @@ use std::sync::Wait;
 use std::sync::atomic::{AtomicU64, Ordering};
 use std::test::Fail;
 
-/// A reader of one byte at a time, which is interrupted so often before each, and fails once it has given so many.
+/// A reader of one byte at a time, which is interrupted `interruptions` times before each, and fails after so many reads.
 #[derive(Drop)]
 struct Slow<'a> {
     bytes: &'a [u8],
@@ -23,7 +23,8 @@ struct Slow<'a> {
 }
 
 impl<'a> Slow<'a> {
-    /// A reader of these bytes that is interrupted so often before each, and fails after so many reads.
+    /// A reader of these bytes that is interrupted so often before each, and fails after so many reads that give a byte or the
+    /// end.
     fn new(bytes: &'a [u8], interruptions: u32, reads: usize) -> Slow<'a> {
         Slow {
             bytes,
@@ -69,7 +70,7 @@ impl Read for Counted<'_> {
     }
 }
 
-/// A writer of one byte at a time, that fails once it has made so many writes.
+/// A writer of one byte at a time, that keeps what is written, and fails after so many writes.
 #[derive(Drop)]
 struct Narrow {
     held: Vec<u8>,
@@ -136,7 +137,7 @@ fn one_byte_at_a_time(rt: HostRuntime) -> Result<(), Fail> {
     Ok(())
 }
 
-/// Where each read of a session fails in turn, the whole frames before are answered, and nothing else is.
+/// Where a read of a session fails, it ends with `ReadFault`; the whole frames before are answered, and nothing else is.
 #[test]
 fn failing_reads(rt: HostRuntime) -> Result<(), Fail> {
     let input = bytes_of(rt.alloc(), &[HANDSHAKE, LOGIN, METADATA])?;
@@ -170,7 +171,7 @@ fn interrupted_reads(rt: HostRuntime) -> Result<(), Fail> {
     Ok(())
 }
 
-/// How a session ends whose writer takes so many writes, how many receipts it has, and what was written.
+/// Why a session ends whose writer takes so many writes of one byte, how many receipts it has, and what was written.
 fn cut_off<R: Wait + Drop>(
     rt: R,
     alloc: Global,
@@ -185,7 +186,8 @@ fn cut_off<R: Wait + Drop>(
     Ok((end.why, end.receipts, narrow.held))
 }
 
-/// Where each write of a session fails in turn, the answers' front is written, and the receipt of an answered event is kept.
+/// Where a write of a session fails, it ends with `WriteFault`; the answers' front is written, and the receipt of an answered
+/// event is kept.
 #[test]
 fn failing_writes(rt: HostRuntime) -> Result<(), Fail> {
     let input = bytes_of(rt.alloc(), &[HANDSHAKE, LOGIN, METADATA])?;
@@ -220,7 +222,7 @@ fn each_front_of_an_input(rt: HostRuntime) -> Result<(), Fail> {
     Ok(())
 }
 
-/// Why a session of these bytes ended, and how many reads it made.
+/// Why a session of these bytes ended, and how many reads it made of them.
 fn reads_of<R: Wait + Drop>(rt: R, alloc: Global, bytes: &[u8]) -> Result<(EndReason, u64), Fail> {
     let reads = AtomicU64::new(0);
     let counted = Counted {
@@ -231,7 +233,7 @@ fn reads_of<R: Wait + Drop>(rt: R, alloc: Global, bytes: &[u8]) -> Result<(EndRe
     Ok((why, reads.load(Ordering::SeqCst)))
 }
 
-/// Memory is taken for as much as has come, so a long frame comes in few reads after a login.
+/// After a login a frame of a megabyte comes in few reads: memory is taken for as much again as has come.
 #[test]
 fn a_long_frame_in_few_reads(rt: HostRuntime) -> Result<(), Fail> {
     let mut input = bytes_of(rt.alloc(), &[HANDSHAKE, LOGIN, "000f4240"])?;
@@ -241,7 +243,7 @@ fn a_long_frame_in_few_reads(rt: HostRuntime) -> Result<(), Fail> {
     Ok(())
 }
 
-/// Before a login a frame of a megabyte isn't kept: it is read past, by pieces of 8,192 bytes.
+/// Before a login a frame of a megabyte isn't kept: it is read past by pieces of 8,192 bytes, and ends the session.
 #[test]
 fn a_long_frame_before_a_login(rt: HostRuntime) -> Result<(), Fail> {
     let mut input = bytes_of(rt.alloc(), &["000f4240"])?;

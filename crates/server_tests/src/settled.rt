@@ -1,4 +1,4 @@
-//! What is settled, and what isn't.
+//! Which receipts settle a core's books, and which don't.
 
 ghost use Rattle.std.specs.Prelude.{◌≡◌, ◌+◌, []};
 ghost use Rattle.request_handlers.specs.Seats.{most_seats};
@@ -14,7 +14,7 @@ use std::sync::Wait;
 use std::sync::ledger::{Blank, Ledger};
 use std::test::Fail;
 
-/// The receipts of two ends, and the core that gave them.
+/// The receipts of two seats, and the core that gave them.
 #[derive(Drop)]
 struct Books<L: Ledger> {
     quiet: Quiet<L>,
@@ -22,7 +22,7 @@ struct Books<L: Ledger> {
     two: Vec<Receipt>,
 }
 
-/// The receipts of two events in a list; an error where one of them was stopped.
+/// The receipts of two events in a list; an error where one of them was stopped, or after an allocation failure.
 fn receipts_of(
     alloc: Global,
     first: Result<Receipt, Stop>,
@@ -65,7 +65,8 @@ fn keep_books<L: DeskLedger, R: Wait + Drop>(
     })
 }
 
-/// What settling says of the receipts of one or of both ends, and of those of another desk after them.
+/// What `settle` says of the receipts of both seats, of the first alone, of both with those of an equal desk, and of all these
+/// with those of another desk.
 #[derive(Clone, Copy, Debug, PartialEq, Eq)]
 struct Settling {
     of_both: Result<Settled, SettleFault>,
@@ -90,14 +91,14 @@ fn first_receipts_at<L: DeskLedger, R: Wait + Drop>(
     Ok(one)
 }
 
-/// The same receipts, of a desk of its own.
+/// As `first_receipts_at`, with a ledger of its own.
 fn first_receipts<R: Wait + Drop>(rt: R, alloc: Global, core: Core) -> Result<Vec<Receipt>, Fail>
     requires { core.trail ≡ [] }
 {
     first_receipts_at::<Brand, R>(rt, alloc, core, Blank::new(MOST_SEATS + 1))
 }
 
-/// Settles the books of a desk with each of four lists of receipts, right and wrong ones.
+/// Settles the books of a desk with each of four lists of receipts, the right one and three wrong ones.
 fn settle_each_at<L: DeskLedger, R: Wait + Drop + Copy>(
     rt: R,
     alloc: Global,
@@ -121,7 +122,7 @@ fn settle_each_at<L: DeskLedger, R: Wait + Drop + Copy>(
     })
 }
 
-/// Settles the books of a desk of its own with each of four lists of receipts.
+/// As `settle_each_at`, at a desk of its own.
 fn settle_each<R: Wait + Drop + Copy>(rt: R, alloc: Global) -> Result<Settling, Fail> {
     let core = equal_core(alloc).ok_or("core")?;
     settle_each_at::<Brand, R>(rt, alloc, core, Blank::new(MOST_SEATS + 1))

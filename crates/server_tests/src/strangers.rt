@@ -1,5 +1,5 @@
-//! A server to which strangers come: it goes on, keeps nothing of those that ask nothing, and lets in as many of a host as may
-//! be.
+//! A server to which strangers come: it goes on, keeps nothing of those that ask nothing, and lets in only so many connections of
+//! a host.
 
 ghost use Rattle.std.specs.Prelude.{◌≡◌, ◌+◌, []};
 ghost use Rattle.request_handlers.specs.Seats.{most_seats};
@@ -25,7 +25,7 @@ use std::time::Duration;
 use std::{io, thread, time};
 use wire_types::{Shared, Text};
 
-/// Counts what it is told.
+/// Counts the connections that are turned away, and those for which no seat is left.
 #[derive(Drop)]
 struct Counting {
     turned_away: AtomicU64,
@@ -55,18 +55,18 @@ impl Doorman for Counting {
     }
 }
 
-/// What is left of the sessions of a server, and what was told.
+/// What is left of the sessions of a server, and what its doorman was told.
 #[derive(Clone, Copy, Debug, PartialEq, Eq)]
 struct Left {
-    /// So many ends are kept, the keeper's among them.
+    /// How many ends are kept, the keeper's among them.
     ends: usize,
-    /// So many sessions more ended.
+    /// How many sessions more ended, without a receipt.
     others: u64,
     turned_away: u64,
     unseated: u64,
 }
 
-/// Where a server listens, and for whom, until it is closed.
+/// Where a server listens, who may log in, and the flag that has it take no more connections.
 #[derive(Drop)]
 struct Site {
     users: Shared<Users>,
@@ -92,15 +92,16 @@ impl Site {
         })
     }
 
-    /// Has the server take no more connections, after its clients have said this, and hands that on.
+    /// Has the server take no more connections, and returns `said`, which is what its clients found before that.
     fn close_after(&self, said: Result<bool, Fail>) -> Result<bool, Fail> {
         self.closing.close();
         said
     }
 }
 
-/// Serves the connections of a site until it is closed, by two workers, at a desk that has given so many seats before. `per_host`
-/// is how many connections a host may have at once. Gives what is left of the sessions.
+/// Serves the connections of a site until it is closed, by two workers, at a desk of which `given` seats are used up first.
+/// `per_host` is how many connections a host may have at once. Returns what is left of the sessions; `None` where the desk hasn't
+/// so many seats, or the sessions' ends are given up.
 fn serve_at<
     L: DeskLedger + Send + Sync,
     R: Net<Listener = TcpListener, Stream = TcpStream> + Threads + Wait + time::Clock + Copy + Sync,
@@ -158,7 +159,8 @@ fn serve_at<
     })
 }
 
-/// Serves the connections of a site as `serve_at` does, at a desk of its own.
+/// As `serve_at`, with a ledger of its own. `given` of the desk's 1,048,576 seats are used up first; `None` where it hasn't so
+/// many, or the sessions' ends are given up.
 fn serve_site<
     R: Net<Listener = TcpListener, Stream = TcpStream> + Threads + Wait + time::Clock + Copy + Sync,
 >(rt: &R, alloc: Global, core: Core, given: u64, per_host: Option<u64>, site: &Site) -> Option<Left>
@@ -175,7 +177,8 @@ fn serve_site<
     )
 }
 
-/// All that comes over a connection over which this is said, and no more is; where nothing is said, it stays open.
+/// Sends `said` over a connection and then closes its writing half, which stays open where `said` is empty, and returns all that
+/// comes until the server closes. An error where a read waits for 20 seconds, or the connection breaks.
 fn told(alloc: Global, mut stream: TcpStream, said: &[u8]) -> io::Result<Vec<u8>> {
     stream.set_read_timeout(Some(Duration::from_secs(PATIENCE)))?;
     stream.write_all(said)?;
@@ -187,19 +190,19 @@ fn told(alloc: Global, mut stream: TcpStream, said: &[u8]) -> io::Result<Vec<u8>
     Ok(bytes)
 }
 
-/// Whether the server closes a connection over which nothing is said.
+/// Whether the server closes a connection over which nothing is sent, without an answer.
 fn is_closed(alloc: Global, stream: TcpStream) -> bool {
     told(alloc, stream, b"").is_ok_and(|bytes| bytes.is_empty())
 }
 
-/// Whether a client that logs in and asks for all topics is sent just the answers to that.
+/// Whether a client that logs in as ann and asks for all topics is sent just the answers to that.
 fn is_answered(alloc: Global, client: TcpStream) -> Result<bool, Fail> {
     let said = bytes_of(alloc, &[HANDSHAKE, LOGIN, METADATA])?;
     let due = bytes_of(alloc, &[HANDSHAKE_TOLD, LOGIN_TOLD, METADATA_TOLD])?;
     Ok(told(alloc, client, said.as_slice()).is_ok_and(|bytes| bytes == due))
 }
 
-/// Whether a client is answered that comes after so many connections that close at once.
+/// Whether a client is answered that comes after `strangers` connections which close at once.
 fn after_strangers<R: Net<Stream = TcpStream>>(
     rt: &R,
     alloc: Global,
@@ -258,7 +261,7 @@ fn strangers_use_up_no_seats(rt: HostRuntime) -> Result<(), Fail> {
     Ok(())
 }
 
-/// Whether the server closes each of two connections over which nothing is said.
+/// Whether the server closes each of two connections, one after the other, over which nothing is sent.
 fn two_are_closed<R: Net<Stream = TcpStream>>(
     rt: &R,
     alloc: Global,
@@ -293,7 +296,7 @@ fn where_no_seat_is_left(rt: HostRuntime) -> Result<(), Fail> {
     Ok(())
 }
 
-/// A connection that isn't closed at once, out of up to 1,000 tries; else `None`.
+/// A connection that the server doesn't close within 100 milliseconds, out of up to 1,000 tries; else `None`.
 fn let_in<R: Net<Stream = TcpStream> + time::Clock>(
     rt: &R,
     address: SocketAddr,
@@ -309,8 +312,8 @@ fn let_in<R: Net<Stream = TcpStream> + time::Clock>(
     Ok(None)
 }
 
-/// Whether a second connection of a host is closed at once while the first is open, and one that comes after the first is
-/// answered.
+/// Whether a second connection of a host is closed at once while the first is open, and one that comes after the first has closed
+/// is answered.
 fn one_at_a_time<R: Net<Stream = TcpStream> + time::Clock>(
     rt: &R,
     alloc: Global,

@@ -1,4 +1,4 @@
-//! What is said in a session: the frames that are sent, and the events that they are.
+//! The frames of a session, and the events that they are.
 
 ghost use Rattle.std.specs.Prelude.{◌≡◌, [], IfSome};
 ghost use Rattle.request_handlers.specs.Bounds.{EventFits};
@@ -20,7 +20,7 @@ const SETTINGS: &str =
     [[acl]]\nkind = \"Topic\"\nname = \"b\"\npattern = \"LITERAL\"\nprincipal = \"User:ann\"\nhost = \"*\"\n\
     operation = \"ALL\"\npermission = \"ALLOW\"\n";
 
-/// The same of another node.
+/// Another node with the topic `b`, without users and ACLs.
 const OTHER_SETTINGS: &str =
     "node_id = 2\nhost = \"h\"\nport = 9092\n[[topic]]\nname = \"b\"\npartitions = 1\n";
 
@@ -57,7 +57,7 @@ pub(crate) const FETCH_TOLD: &str =
     ff000000450000000000000000000000390000000002dbe9c87600000000000000000000000000000000000000000000\
     ffffffffffffffffffffffffffff000000010e00000001026100";
 
-/// A core opened with the settings in this text; `None` where that fails.
+/// A core opened with the settings in this text; `None` where they are refused, or an allocation fails.
 pub(crate) fn core_of(alloc: Global, settings: &str) -> Option<Core>
     ensures { IfSome result (λ core. core.trail ≡ []) }
 {
@@ -72,7 +72,7 @@ pub(crate) fn core(alloc: Global) -> Option<Core>
     core_of(alloc, SETTINGS)
 }
 
-/// A core by `OTHER_SETTINGS`, which are those of another node.
+/// A core by `OTHER_SETTINGS`.
 pub(crate) fn other_core(alloc: Global) -> Option<Core>
     ensures { IfSome result (λ core. core.trail ≡ []) }
 {
@@ -87,14 +87,15 @@ pub(crate) fn users(alloc: Global) -> Result<Users, Fail> {
     Ok(Users::of_checked(users))
 }
 
-/// The event of ann's frame, which comes with its size field in hexadecimal digits; `None` where that fails.
+/// The event of ann's frame from 10.0.0.5, which comes with its size field in hexadecimal digits; `None` where the frame is no
+/// request that is served, or after an allocation failure. What the size field holds isn't looked at.
 pub(crate) fn event_of(alloc: Global, digits: &str) -> Option<Event>
     ensures { IfSome result EventFits }
 {
     event_by(alloc, "User:ann", digits)
 }
 
-/// A client's id in a block of its own, or none. The outer `None` is an allocation failure.
+/// The client id in a block of its own, if there is one. The outer `None` is an allocation failure.
 fn boxed(alloc: Global, client: Option<Text>) -> Option<Option<Boxed<Text>>> {
     match client {
         Some(client) => Some(Some(Boxed::new(alloc, client).ok()?)),
@@ -102,7 +103,7 @@ fn boxed(alloc: Global, client: Option<Text>) -> Option<Option<Boxed<Text>>> {
     }
 }
 
-/// The event of this principal's frame, which comes with its size field in hexadecimal digits; `None` where that fails.
+/// As `event_of`, of this principal.
 pub(crate) fn event_by(alloc: Global, who: &str, digits: &str) -> Option<Event>
     ensures { IfSome result EventFits }
 {

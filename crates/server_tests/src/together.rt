@@ -29,7 +29,7 @@ use std::time::Duration;
 use std::{thread, time};
 use wire_types::{Shared, Text};
 
-/// Counts milliseconds until all workers have ended.
+/// A clock that counts milliseconds, one for each sleep of a millisecond, until all workers have ended.
 #[derive(Drop)]
 pub(crate) struct Ticks<R: time::Clock + Drop> {
     pub(crate) rt: R,
@@ -51,21 +51,21 @@ impl<R: time::Clock + Drop> Clock for Ticks<R> {
     }
 }
 
-/// What came of two sessions.
+/// What came of two sessions and the keeper.
 #[derive(Clone, Copy, Debug, PartialEq, Eq)]
 struct Came {
     ends: usize,
-    /// How many of them ended Closed.
+    /// How many of the ends have the reason `Closed`.
     closed: usize,
     receipts: usize,
     entries: usize,
-    /// How many events a settled core tells of.
+    /// How many events the settled core has; `None` where it can't be settled.
     settled: Option<u64>,
-    /// A wait ran out.
+    /// Whether a wait ran out.
     late: bool,
-    /// The trail's requests are those that session 2 sent, and then that of session 1.
+    /// Whether the trail's requests are those that session 2 sent, and then that of session 1.
     told: bool,
-    /// Each session was answered what is due, byte for byte.
+    /// Whether each session was answered what is due, byte for byte.
     answered: bool,
 }
 
@@ -77,7 +77,7 @@ struct Written {
 }
 
 impl Written {
-    /// Nothing was written to either session yet.
+    /// Bytes for both sessions, to which nothing was written yet.
     fn new(alloc: Global) -> Result<Written, Fail> {
         Ok(Written {
             one: nothing(alloc)?,
@@ -96,7 +96,7 @@ impl Written {
     }
 }
 
-/// Bytes to which nothing was written yet, which two may share.
+/// Shared bytes, to which nothing was written yet.
 fn nothing(alloc: Global) -> Result<Shared<Mutex<Vec<u8>>>, Fail> {
     Ok(
         Shared::new(alloc, Mutex::new(Vec::new(alloc)))
@@ -126,7 +126,7 @@ fn talk_of<R: Wait + time::Clock + Copy>(
     })
 }
 
-/// The job of a session, for a worker to serve.
+/// The job of a session of a peer at 10.0.0.5, for a worker to serve; what is written to it goes to `written`.
 fn job_of<R: Wait + time::Clock + Copy>(
     rt: R,
     alloc: Global,
@@ -155,7 +155,8 @@ fn job_of<R: Wait + time::Clock + Copy>(
     })
 }
 
-/// Sends the jobs of both sessions to the workers: session 1 asks for all topics, and session 2 produces a record and fetches it.
+/// Sends the jobs of both sessions to the workers: session 1, held at `place`, asks for all topics, and session 2 produces a
+/// record and fetches it.
 fn send_both<R: Wait + time::Clock + Copy>(
     rt: R,
     alloc: Global,
@@ -175,7 +176,7 @@ fn send_both<R: Wait + time::Clock + Copy>(
     Ok(())
 }
 
-/// Serves both sessions at a desk by so many workers, and gives their ends.
+/// Serves both sessions at a desk by so many workers, and returns their ends and the keeper's.
 fn serve_both<L: DeskLedger + Send + Sync, R: Threads + Wait + time::Clock + Copy + Send + Sync>(
     rt: R,
     alloc: Global,
@@ -201,7 +202,7 @@ fn serve_both<L: DeskLedger + Send + Sync, R: Threads + Wait + time::Clock + Cop
     }
 }
 
-/// Whether a request is that of this frame, and comes from ann.
+/// Whether a request is that of this frame, and its caller is ann.
 fn is_told(alloc: Global, caller: &Caller, request: &Request, frame: &str) -> bool {
     match event_of(alloc, frame) {
         Some(Event::Ask { request: sent, .. }) => {
@@ -235,7 +236,7 @@ fn are_told(alloc: Global, trail: &Trail, frames: &[&str]) -> bool {
     found == frames.len()
 }
 
-/// How many of these sessions ended since their input did.
+/// How many of these ends have the reason `Closed`.
 fn closed_in<L: Ledger>(ends: &[SessionEnd<Seat<L>>]) -> usize {
     let mut closed = 0usize;
     for end in ends {
@@ -244,7 +245,7 @@ fn closed_in<L: Ledger>(ends: &[SessionEnd<Seat<L>>]) -> usize {
     closed
 }
 
-/// The receipts of each end, and how many they are in all.
+/// The receipts of each end, in the order of the ends, and how many receipts there are in all.
 fn receipts_of<L: Ledger>(
     alloc: Global,
     ends: Vec<SessionEnd<Seat<L>>>,
@@ -258,7 +259,7 @@ fn receipts_of<L: Ledger>(
     Ok((receipts, count))
 }
 
-/// What came of the sessions at a desk: how they ended, what they were answered, and whether the books are settled.
+/// What came of the sessions at a desk: how they ended, what they were answered, and whether the books settle.
 fn came_of<L: Ledger>(
     alloc: Global,
     quiet: &Quiet<L>,
@@ -285,7 +286,7 @@ fn came_of<L: Ledger>(
     })
 }
 
-/// Serves both sessions at a desk with the blank's seats, and tells what came of them.
+/// Serves both sessions at a desk with the blank's seats, session 1 held at `place`, and returns what came of them.
 fn run_at<L: DeskLedger + Send + Sync, R: Threads + Wait + time::Clock + Copy + Send + Sync>(
     rt: R,
     alloc: Global,
@@ -308,7 +309,7 @@ fn run_at<L: DeskLedger + Send + Sync, R: Threads + Wait + time::Clock + Copy + 
     came_of(alloc, &desk.close(), ends, late, answered)
 }
 
-/// Serves both sessions at a desk of its own, and tells what came of them.
+/// As `run_at`, at a desk of its own.
 fn run<R: Threads + Wait + time::Clock + Copy + Send + Sync>(
     rt: R,
     alloc: Global,

@@ -1,4 +1,4 @@
-//! Who may log in at all.
+//! Which users settings may have.
 
 use session_pool::Users;
 use settings_text::{SettingsFault, User};
@@ -6,7 +6,7 @@ use std::alloc::{AllocError, Global};
 use std::test::Fail;
 use wire_types::{Items, Text};
 
-/// Users of these names and passwords.
+/// A list of users with these names and passwords, unchecked.
 fn users_of(alloc: Global, users: &[(&str, &str)]) -> Result<Items<User>, AllocError> {
     let mut list = Items::new(alloc);
     for (name, password) in users {
@@ -18,7 +18,7 @@ fn users_of(alloc: Global, users: &[(&str, &str)]) -> Result<Items<User>, AllocE
     Ok(list)
 }
 
-/// The fault of users of these names and passwords; `None` where they have none.
+/// The fault for which `Users::new` refuses these names and passwords; `None` where it takes them.
 fn fault_of(alloc: Global, users: &[(&str, &str)]) -> Result<Option<SettingsFault>, AllocError> {
     Ok(Users::new(alloc, users_of(alloc, users)?).err())
 }

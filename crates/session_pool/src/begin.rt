@@ -17,22 +17,23 @@ const API_VERSIONS: i16 = 18;
 
 const SASL_AUTHENTICATE: i16 = 36;
 
-/// What the first bytes of a frame say of it.
+/// What the first eight bytes of a frame, and its length, say of it.
 #[derive(Drop)]
 pub(crate) enum Begun {
     /// It asks ApiVersions in a version that isn't served, under this correlation id.
     OtherVersion(i32),
-    /// Its api isn't served before a login.
+    /// Its api may not be asked in the session's state.
     Unserved,
-    /// It is a login under this correlation id, and longer than any that is right.
+    /// It is a SaslAuthenticate of version 0 under this correlation id, longer than any that logs somebody in, so it wasn't kept
+    /// whole.
     Overlong(i32),
-    /// It is too long for what it asks.
+    /// It is longer than what is kept before a login, and no SaslAuthenticate of version 0; or it has no eight bytes.
     Unreadable,
-    /// All of it came.
+    /// All of it was kept, so its body says what it asks.
     Whole,
 }
 
-/// Reads the start of a request header: the api key and the version, and the correlation id.
+/// Reads the start of a request header: the api key and the version, and the correlation id. The error is `Short`.
 fn read_start(cursor: &mut Cursor<'_>) -> Result<((i16, i16), i32), Malformed>
     ensures { Takes (header_start.reading cursor.old) result cursor.new }
 {
@@ -42,8 +43,8 @@ fn read_start(cursor: &mut Cursor<'_>) -> Result<((i16, i16), i32), Malformed>
     Ok(((key, version), correlation))
 }
 
-/// The start of a frame's request header: its api key and its version, and its correlation id. `None` where the frame is too
-/// short.
+/// The start of a frame's request header: its api key and its version, and its correlation id. `None` where the frame is shorter
+/// than eight bytes.
 fn start_of(bytes: &Bytes) -> Option<((i16, i16), i32)>
     ensures { result ≡ start_of bytes.now }
 {
@@ -51,8 +52,8 @@ fn start_of(bytes: &Bytes) -> Option<((i16, i16), i32)>
     read_start(&mut cursor).ok()
 }
 
-/// Whether an api may be asked in this state: before a login ApiVersions, and first SaslHandshake, then SaslAuthenticate; after
-/// it any.
+/// Whether an api may be asked in this state: before a login ApiVersions, and SaslHandshake until a mechanism is agreed on, then
+/// SaslAuthenticate; after a login any.
 fn is_served(state: &SessionState, key: i16) -> bool
     ensures { result ≡ is_served state.now key }
 {
@@ -63,7 +64,8 @@ fn is_served(state: &SessionState, key: i16) -> bool
     }
 }
 
-/// Whether a request of this api key and version is a SaslAuthenticate of version 0, where a login is due.
+/// Whether a request of this api key and version is a SaslAuthenticate of version 0, in the state between a SaslHandshake and the
+/// login.
 fn is_login(state: &SessionState, names: (i16, i16)) -> bool
     ensures { result ≡ is_login state.now names }
 {
@@ -73,7 +75,8 @@ fn is_login(state: &SessionState, names: (i16, i16)) -> bool
     }
 }
 
-/// What a frame leads to in this state, as far as its first bytes and its length say it.
+/// What a frame leads to in this state, as far as its first eight bytes and its length say it. An ApiVersions in a version that
+/// isn't served comes before all else.
 pub(crate) fn begin(state: &SessionState, came: &Came) -> Begun
     requires { length came.now.kept ≤ came.now.size }
     ensures { (g : Setting) (limit : ℕ) (frame : List ℕ) → CameOf g limit state.now came.now frame

@@ -4,7 +4,8 @@ ghost use Rattle.std.specs.Prelude.{◌≡◌};
 ghost use Rattle.std.specs.Str.{bytes_eq};
 ghost use Rattle.session_pool.specs.Compared.{differences};
 
-/// At how many places two texts differ, counting those that only one of them has. Each place is looked at.
+/// At how many places two texts differ, counting those that only one of them has. Each place is looked at. `told` is the client's
+/// text, `kept` the user's.
 fn differences(told: &[u8], kept: &[u8]) -> usize
     ensures { result ≡ differences told.now kept.now }
 {
@@ -22,7 +23,7 @@ fn differences(told: &[u8], kept: &[u8]) -> usize
     count + rest.len()
 }
 
-/// Whether two texts are the same, found out in a time that doesn't tell where they differ.
+/// Whether two texts are the same, found out in a time that doesn't tell where they differ, but may tell their lengths.
 #[tactic(auto, using(crate::proofs::Compared::same_bytes))]
 pub(crate) fn are_same(told: &[u8], kept: &[u8]) -> bool
     ensures { result ≡ bytes_eq kept.now told.now }

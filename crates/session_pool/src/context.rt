@@ -5,7 +5,7 @@ use crate::session::Limits;
 use crate::users::Users;
 use wire_types::Text;
 
-/// What a login goes by: the host that calls, who may log in, and how versions are listed before that.
+/// What a login goes by: the peer's host, who may log in, and how ApiVersions lists versions before a login.
 #[derive(Clone, Copy)]
 pub struct LoginContext<'a> {
     pub host: &'a Text,

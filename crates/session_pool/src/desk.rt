@@ -23,16 +23,16 @@ impl DeskLedger for Brand {
     ghost settings = { no_settings };
 }
 
-/// Hands events to a core, each with a seat of type `S`.
+/// Hands events to a core, each by a seat of type `S`, which knows how many were answered by it and the last receipt.
 pub trait Desk<S> {
     /// What a seat shows.
     ghost view: { S → SeatValue };
 
-    /// Whether it may answer an event by a stop.
+    /// Which stops it may answer an event by.
     ghost may_stop: { Event → Stop → Bool };
 
-    /// Hands an event to the core by a seat, and gives its receipt, or the stop where the core doesn't take it. The seat comes
-    /// back either way.
+    /// Hands an event to the core by a seat, and gives its receipt, or the stop where the core doesn't take the event. The seat
+    /// comes back either way, unchanged after a stop.
     fn submit(&self, seat: S, event: Event) -> (S, Result<Receipt, Stop>)
         requires { EventFits event }
         ensures event { IfOk result.1 (λ r. r.event ≡ event) }

@@ -1,12 +1,12 @@
-//! Why a session ends.
+//! Why a session, or the keeper, ends.
 
 use request_handlers::Stop;
 use thiserror::Error;
 
-/// Why a session ended.
+/// Why a session, or the keeper, ended.
 #[derive(Clone, Copy, Debug, PartialEq, Eq, Error)]
 pub enum EndReason {
-    /// The input ended between frames.
+    /// The input ended between frames. Of the keeper: it had no further step.
     #[error("the connection was closed between two requests")]
     Closed,
     /// The input ended inside a frame.
@@ -21,22 +21,22 @@ pub enum EndReason {
     /// A frame's size is below 8 or above the limit.
     #[error("a frame is shorter than a request can be, or longer than the limit")]
     BadFrame,
-    /// A frame isn't a request that is served.
+    /// A frame isn't a request that is served, or before a login it is longer than any that is served there.
     #[error("a frame is no request that is served")]
     Malformed,
-    /// The login failed, or a frame asked what may not be asked before it.
+    /// The login failed, or a frame asked an api that may not be asked before the login.
     #[error("the login failed, or something was asked before it")]
     Login,
-    /// The desk didn't take an event.
+    /// The core didn't take an event.
     #[error(transparent)]
     Stopped(Stop),
-    /// So many frames were served.
+    /// As many frames were served as a session may send.
     #[error("as many requests were served as one connection may ask")]
     Limit,
-    /// Memory was refused.
+    /// An allocation failed.
     #[error("there is not enough memory")]
     NoMemory,
-    /// A reply is longer than its size field can tell, or a text in it than its length.
+    /// A reply is longer than its size field can tell, or a text or list in it than its length field.
     #[error("a reply is longer than a response can be")]
     TooLong,
 }

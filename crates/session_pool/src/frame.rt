@@ -20,7 +20,7 @@ const SIZE_FIELD: usize = 4;
 /// The bytes of the shortest frame: api key, version, and correlation id.
 const LEAST: u32 = 8;
 
-/// For how many of a frame's bytes memory is taken before any of them came.
+/// For how many of a frame's bytes memory is taken at least, as far as it has so many, before any of them came.
 const PIECE: usize = 8_192;
 
 /// Reads once, and up to 1,000 times again where that was interrupted. Gives how many bytes came, 0 at the end of the input; the
@@ -46,7 +46,8 @@ fn read_some<R: Read>(reader: &mut R, piece: &mut [u8]) -> Result<usize, EndReas
     Err(EndReason::ReadFault)
 }
 
-/// Reads until the piece is full or the input ends, and gives how many bytes came.
+/// Reads until the piece is full or the input ends, and gives how many bytes came. The error is `ReadFault`; how many bytes came
+/// before that isn't told.
 fn fill<R: Read>(reader: &mut R, piece: &mut [u8]) -> Result<usize, EndReason>
     ensures few { IfOk result (λ n. n ≤ length piece.new) }
     ensures ok { IfOk result
@@ -104,7 +105,7 @@ fn read_piece<R: Read>(reader: &mut R, piece: &mut [u8]) -> Result<(), EndReason
     Ok(())
 }
 
-/// Reserves memory for exactly so many more bytes. On an allocation failure the bytes stay as they are.
+/// Makes the body longer by exactly so many bytes, which are 0. The error is `NoMemory`, and leaves the bytes as they are.
 #[tactic(auto, using(crate::proofs::Bytes::front_kept))]
 fn reserve_more(body: &mut Vec<u8>, more: usize) -> Result<(), EndReason>
     ensures len { OnOk result (length body.new.items ≡ length body.old.items + more) }
@@ -122,7 +123,7 @@ fn reserve_more(body: &mut Vec<u8>, more: usize) -> Result<(), EndReason>
     }
 }
 
-/// Fills the body from its byte `held` on. The error is `Cut` where the input ends before that, or `ReadFault`.
+/// Fills the body from its byte `held` on, counted from 0. The error is `Cut` where the input ends before that, or `ReadFault`.
 #[tactic(auto, using(crate::proofs::Bytes::rest_read))]
 fn read_rest<R: Read>(reader: &mut R, body: &mut Vec<u8>, held: usize) -> Result<(), EndReason>
     requires { held ≤ length body.old.items }
@@ -140,10 +141,10 @@ fn read_rest<R: Read>(reader: &mut R, body: &mut Vec<u8>, held: usize) -> Result
     }
 }
 
-/// Reads so many bytes. Memory is taken for the first 8,192 of them, or for as many as the longest frame before had, and then
-/// each time for as many more as have come, up to the size. So a size that announces bytes which never come costs at most
-/// 8,192 bytes, or as many as came at once before, or twice what came of these. The last step is exact: the block that is
-/// given back has none to spare.
+/// Reads `size` bytes. Memory is taken for the first 8,192 of them, or for `longest`, as many as the longest frame before had,
+/// and then each time for as many more as have come, up to the size. So a size that announces bytes which never come costs at
+/// most 8,192 bytes, or `longest`, or twice what came. The last step is exact: the block that is given has no spare room. The
+/// error is `Cut`, `ReadFault` or `NoMemory`.
 #[tactic(auto, using(crate::proofs::Bytes::unread, crate::proofs::Bytes::read_on))]
 fn read_body<R: Read>(
     alloc: Global,
@@ -172,7 +173,7 @@ fn read_body<R: Read>(
     Ok(body)
 }
 
-/// Reads so many bytes and drops them, by pieces of 8,192.
+/// Reads `size` bytes and drops them, by pieces of 8,192. The error is `Cut` or `ReadFault`.
 #[tactic(auto, using(crate::proofs::Bytes::none_passed, crate::proofs::Bytes::more_passed))]
 fn read_past<R: Read>(reader: &mut R, size: usize) -> Result<(), EndReason>
     ensures ok { IfOk result (λ _. Passes (R.remaining reader.old) (R.remaining reader.new) size) }
@@ -194,7 +195,7 @@ fn read_past<R: Read>(reader: &mut R, size: usize) -> Result<(), EndReason>
     Ok(())
 }
 
-/// Reads `size` bytes, keeps the first `kept` of them, and drops the others.
+/// Reads `size` bytes, keeps the first `kept` of them, and drops the others. `longest` and the errors are those of `read_body`.
 #[tactic(auto, using(crate::proofs::Bytes::some_kept, crate::proofs::Bytes::front_lacks, crate::proofs::Bytes::rest_lacks))]
 fn read_keeping<R: Read>(
     alloc: Global,
@@ -220,17 +221,18 @@ fn read_keeping<R: Read>(
     }
 }
 
-/// What came of a frame.
+/// What is kept of a frame that came, without its size field.
 #[derive(Drop)]
 pub(crate) struct Came {
-    /// All its bytes, or the first eight of a frame that is too long to be kept.
+    /// All its bytes, or the first eight of a frame that is too long to be kept whole.
     pub(crate) kept: Bytes,
-    /// How many it has.
+    /// How many bytes it has.
     pub(crate) size: usize,
 }
 
 /// Reads a frame, its size field first, and gives what is kept of it, and its size: all its bytes, or the first eight where it
-/// has more than `most`. The error is `BadFrame` where the size is below 8 or above `limit`.
+/// has more than `most`. The error is `BadFrame` where the size is below 8 or above `limit`, and else that of `read_head` or of
+/// `read_body`.
 #[tactic(auto, using(crate::proofs::Fronts::no_head, crate::proofs::Fronts::bad, crate::proofs::Fronts::no_body))]
 fn read_sized<R: Read>(
     alloc: Global,
@@ -261,7 +263,7 @@ fn read_sized<R: Read>(
 /// Reads a session's frames.
 pub(crate) struct FrameReader<R> {
     pub(crate) reader: R,
-    /// How many bytes of the longest frame so far were kept, never what a size field announced.
+    /// How many bytes were kept of the frame of which most were, whatever size fields announced.
     pub(crate) longest: usize,
 }
 
@@ -276,7 +278,8 @@ impl<R: Drop> Drop for FrameReader<R> {
 
 impl<R: Read> FrameReader<R> {
     /// Reads the next frame, without its size field, and keeps all of it, or the first eight bytes of one that is longer than
-    /// `most`. What was kept isn't copied. The error is the reason for which the session ends.
+    /// `most`. What was kept isn't copied. The error is the reason for which the session ends: `BadFrame` for a size below 8 or
+    /// above `limit`, `Closed`, `Cut`, `ReadFault` or `NoMemory`.
     #[tactic(auto, using(crate::proofs::Fronts::no_room))]
     pub(crate) fn read(&mut self, alloc: Global, most: u32, limit: u32) -> Result<Came, EndReason>
         ensures within { IfOk result

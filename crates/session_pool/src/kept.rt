@@ -1,4 +1,4 @@
-//! What a desk's lock is round.
+//! What a desk's lock protects.
 
 ghost use Rattle.std.specs.Prelude.{◌≡◌, ◌+◌, ◌<◌, ◌≤◌, [], length, IfOk, IfErr, IfSome, IfNone, OnOk, OnErr};
 ghost use Rattle.request_handlers.specs.Bounds.{EventFits};
@@ -18,7 +18,7 @@ pub(crate) struct Kept<L: DeskLedger> {
 }
 
 impl<L: DeskLedger> Kept<L> {
-    /// A core that has answered nothing, of whose seats none was given.
+    /// Keeps a core that has answered nothing, of whose seats none was given. The blank has one part for each seat, and one more.
     pub(crate) fn new(core: Core, blank: Blank) -> Kept<L>
         requires settings { core.settings ≡ L.settings }
         requires empty { core.trail ≡ [] }
@@ -31,7 +31,7 @@ impl<L: DeskLedger> Kept<L> {
         }
     }
 
-    /// A new seat; `None` once all were given.
+    /// A new seat; `None` once 1,048,576 were given.
     pub(crate) fn seat(&mut self) -> Option<Seat<L>>
         ensures some { IfSome result
             (λ seat. (seat ≡ fresh_seat) × (self.old.booked.given < most_seats)
@@ -49,8 +49,8 @@ impl<L: DeskLedger> Kept<L> {
         self.booked.core().world().coordinator.owed()
     }
 
-    /// Hands an event to the core by a seat, and gives its receipt, or the stop where the core doesn't take it. The seat comes
-    /// back.
+    /// Hands an event to the core by a seat, and gives its receipt, or the stop where the core doesn't take the event. The seat
+    /// comes back either way.
     #[tactic(auto, using(crate::proofs::Stays::settings_stay))]
     pub(crate) fn step(&mut self, seat: Seat<L>, event: Event) -> (Seat<L>, Result<Receipt, Stop>)
         requires { EventFits event }

@@ -7,18 +7,18 @@ ghost use Rattle.session_pool.specs.declared.login.SessionState.{SessionState};
 ghost use Rattle.session_pool.specs.Own.{AsksAreOwn};
 ghost use Rattle.session_pool.specs.Unread.{LogsNobodyIn, GoesByItsFront};
 
-/// Whatever bytes come in, only a user who has told the right password asks anything: each ask is the request of a frame, in
-/// their order, and is that of the user who logged in by a frame before.
+/// Whatever bytes a session reads, only a user who has told the right password asks anything: each event is the request of a
+/// frame, in the frames' order, and is asked by the user whom a frame before it logged in.
 pub fn asks_are_own()
     ensures { (g : Setting) (n limit : ℕ) (input : List ℕ) → AsksAreOwn g n limit input }
 {}
 
-/// No frame that is longer than what is kept of one before a login can be a right login.
+/// No frame that is longer than what is kept whole before a login tells the right password of a user.
 pub fn long_frames_log_nobody_in()
     ensures { (users : List User) (frame : List ℕ) → LogsNobodyIn users frame }
 {}
 
-/// What a frame leads to that is longer than what is kept of one before a login depends on its first eight bytes and its length
+/// Before a login, what a frame leads to that is longer than what is kept whole depends on its first eight bytes and its length
 /// alone.
 pub fn long_frames_go_by_their_front()
     ensures { (g : Setting) (s : SessionState) (frame : List ℕ) → GoesByItsFront g s frame }

@@ -1,9 +1,8 @@
 //! Sessions: whoever connects logs in and asks, one frame after the other, and a desk of one core answers.
 //!
-//! `serve_session` reads frames, keeps how far the login went in a state that each call uses up, and hands the events of a
-//! user who is known to a `Desk`. `LockedDesk` is the desk that many threads share.
-//! `Steps` tells a keeper, who asks nothing, when to have the core told the time or a marker written: by a clock (`Clocked`), or
-//! as whoever steers the broker has it.
+//! `serve_session` reads frames, keeps how far the login went in a state that each call uses up, and hands the events of a user
+//! who is known to a `Desk`. `LockedDesk` is the desk that many threads share. `Steps` says when a keeper, which asks nothing,
+//! tells the core the time or has it write a marker: by a clock (`Clocked`), or as whoever steers the broker wants.
 //!
 //! A login itself needs no desk: who may log in (`Users`), by which message (PLAIN, RFC 4616), and what is answered meanwhile.
 #![tactic(auto)]

@@ -1,4 +1,4 @@
-//! What is told before a login of the versions that are served.
+//! Which versions ApiVersions lists before a login.
 
 ghost use Rattle.std.specs.Prelude.{◌≡◌, map, IfOk};
 ghost use Rattle.session_pool.specs.Listed.{is_looked_for, from_zero, versions_listed};
@@ -29,7 +29,7 @@ fn is_looked_for(key: i16) -> bool
     key == FIND_COORDINATOR || key == SASL_HANDSHAKE
 }
 
-/// The versions of an api, from 0 on where librdkafka looks for that.
+/// The versions of an api that are listed for librdkafka: from 0 on where it looks for version 0, else as served.
 fn from_zero(served: &ServedVersions) -> ServedVersions
     ensures { result ≡ from_zero served.now }
 {
@@ -45,7 +45,7 @@ fn from_zero(served: &ServedVersions) -> ServedVersions
     }
 }
 
-/// The versions of all these apis, from 0 on for those of which librdkafka looks for that.
+/// The versions of all these apis that are listed for librdkafka, in the same order.
 fn all_from_zero(
     alloc: Global,
     apis: &[ServedVersions],
@@ -59,7 +59,8 @@ fn all_from_zero(
     Ok(listed)
 }
 
-/// What an ApiVersions is answered before a login: each api with the versions of it that are listed.
+/// What an ApiVersions is answered before a login: each api with the versions of it that are listed. The error is an allocation
+/// failure.
 pub(crate) fn versions_listed(
     alloc: Global,
     listed: ListedVersions,

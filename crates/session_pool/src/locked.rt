@@ -18,8 +18,8 @@ use std::sync::{Mutex, Wait};
 use std::thread::Parker;
 use std::time::Duration;
 
-/// A core with seats under a lock, and the handle by which callers wait for it. Whoever keeps the core's time can rest at the
-/// desk until markers are pending.
+/// A core with seats under a lock, and the handle by which callers wait for the lock. The keeper, which has the core's time in
+/// hand, can rest at the desk until markers are pending.
 #[derive(Drop)]
 pub struct LockedDesk<L: DeskLedger, R: Wait> {
     kept: Mutex<Kept<L>>,
@@ -62,21 +62,21 @@ impl<L: DeskLedger, R: Wait> LockedDesk<L, R> {
         look(core)
     }
 
-    /// Rests until a step leaves markers to be written where there were none before, or the time is over. A step that did so
+    /// Rests until a step of a session leaves pending markers where there were none before, or `most` is over. A step that did so
     /// since the last rest ends it at once. It may end early.
     pub fn rest<T: Wait>(&self, rt: &T, most: Duration) {
         self.keeper.park_timeout(rt, most);
     }
 
-    /// Ends the rest of whoever keeps the core's time, where there are markers to be written and there were none before the step.
+    /// Ends the keeper's rest where a step left pending markers (`after`) and there were none `before`.
     fn wake(&self, before: usize, after: usize) {
         if before == 0 && after > 0 {
             self.keeper.unpark();
         }
     }
 
-    /// Hands an event to the core, as `submit` does, and shows the core to `steps` before and after it, under the lock. This is
-    /// called by the keeper, so it wakes none.
+    /// Hands an event to the core, as `submit` does, and shows the core to `steps` before and after it, under the same lock. The
+    /// keeper calls this, so its rest isn't ended.
     pub fn submit_seen<K: Steps>(
         &self,
         seat: Seat<L>,
@@ -104,8 +104,8 @@ impl<L: DeskLedger, R: Wait> Desk<Seat<L>> for LockedDesk<L, R> {
 
     ghost may_stop = { λ _ _. true };
 
-    /// Hands an event to the core under the lock. The seat comes back. Where the step leaves markers to be written, the keeper is
-    /// woken.
+    /// Hands an event to the core under the lock. The seat comes back. Where the step leaves pending markers and there were none
+    /// before, the keeper's rest ends.
     fn submit(&self, seat: Seat<L>, event: Event) -> (Seat<L>, Result<Receipt, Stop>) {
         let mut kept = self.kept.lock(&self.rt);
         let before = kept.owed();
@@ -139,7 +139,7 @@ impl<L: Ledger> Quiet<L> {
         self.booked.core()
     }
 
-    /// The same core. As with each core, its trail is the history of the events that it has answered.
+    /// The same core, of which its contract says that the trail is the history of the events that it has answered.
     fn told(self) -> Quiet<L>
         ensures same { result ≡ self }
         ensures history { IsHistory result }
@@ -150,8 +150,8 @@ impl<L: Ledger> Quiet<L> {
 }
 
 impl<L: DeskLedger, R: Wait + Drop> LockedDesk<L, R> {
-    /// Gives up the lock once no thread shares the desk, and gives the core. It has the settings with which the desk was opened,
-    /// and its trail is the history of its events.
+    /// Takes the core out of its lock, once no thread shares the desk. It has the settings with which the desk was opened, and
+    /// its trail is the history of its events.
     pub fn close(self) -> Quiet<L>
         ensures { IsDeskCore L.settings result }
     {

@@ -1,5 +1,5 @@
-//! A session's states. Each is used up by the call that leaves it, so that nobody asks before a login, and no password is
-//! tried twice.
+//! A session's states. The call that leaves a state uses it up, so that nobody asks before a login, and no session tries two
+//! passwords.
 
 ghost use Rattle.std.specs.Prelude.{◌≡◌, IfOk, MatchResult, true, false};
 ghost use Rattle.audit_trail.specs.declared.event.Event.TheVariants.{Ask};
@@ -18,31 +18,33 @@ use std::marker::Model;
 use thiserror::Error;
 use wire_types::{ErrorCode, Shared, Text};
 
-/// The code with which a session is closed.
+/// The error with which a session is closed whose SaslHandshake or login fails.
 #[derive(Clone, Copy, Debug, PartialEq, Eq, Error)]
 #[error("the session is closed, since the login failed")]
 pub struct Closed(pub ErrorCode);
 
-/// Why a login didn't come off.
+/// Why a login fails.
 #[derive(Clone, Copy, Debug, PartialEq, Eq, Error)]
 pub enum LoginFault {
-    /// The message names no user with the right password.
+    /// The message isn't a PLAIN message that logs a user in: it is malformed, names no user with the right password, or its
+    /// authzid is neither empty nor the name.
     #[error(transparent)]
     Closed(Closed),
-    /// Memory was refused for the principal's name.
+    /// Memory was refused for the principal's name, its host, or the caller that is made of both.
     #[error("there is not enough memory for the principal's name")]
     NoMemory,
 }
 
-/// Nothing was agreed on yet.
+/// A session in which no mechanism was agreed on yet.
 #[derive(Debug, Drop)]
 pub struct Fresh(());
 
-/// The mechanism was agreed on.
+/// A session in which the mechanism PLAIN was agreed on, and nobody has logged in.
 #[derive(Debug, Drop)]
 pub struct Offered(());
 
-/// A principal, kept with the host from which it logged in: the caller that its events share. Seen as the principal.
+/// A principal, kept with the host from which it logged in: the caller that its events share. Its value in contracts is the
+/// principal's name alone.
 #[derive(Debug)]
 struct Principal {
     caller: Shared<Caller>,
@@ -63,7 +65,7 @@ impl Drop for Principal {
 }
 
 impl Principal {
-    /// The principal `User:NAME` of a user who logs in from this host.
+    /// The principal `User:NAME` of a user who logs in from this host. The error is an allocation failure.
     fn of(alloc: Global, user: &User, host: &Text) -> Result<Principal, AllocError>
         ensures { IfOk result (λ principal. principal ≡ principal_of user.now) }
     {
@@ -81,7 +83,8 @@ impl Principal {
         &self.caller.value().who
     }
 
-    /// The caller that the principal is at this host. Where that is the host from which it logged in, nothing is copied.
+    /// The principal as a caller from this host. Where it logged in from there, the caller is shared, and nothing is copied. The
+    /// error is an allocation failure.
     fn at(&self, alloc: Global, host: &Text) -> Result<Shared<Caller>, AllocError>
         ensures { IfOk result (λ caller. caller ≡ record { who = self.now; host = host.now }) }
     {
@@ -94,7 +97,7 @@ impl Principal {
     }
 }
 
-/// A user who told the right password.
+/// A session whose user told the right password.
 #[derive(Debug, Drop)]
 pub struct Known {
     who: Principal,
@@ -126,8 +129,8 @@ impl Fresh {
         Fresh(())
     }
 
-    /// Agrees on the mechanism PLAIN (RFC 4616), the only one that is offered. For any other, the session is closed with
-    /// UNSUPPORTED_SASL_MECHANISM (33).
+    /// Agrees on the mechanism PLAIN (RFC 4616), the only one that is offered. Any other name gives UNSUPPORTED_SASL_MECHANISM
+    /// (33), for the caller to close the session; the state is used up either way.
     pub fn offer(self, mechanism: &[u8]) -> Result<Offered, Closed>
         ensures { MatchResult result (λ _. is_plain mechanism.now ≡ true)
             (λ closed. (is_plain mechanism.now ≡ false) × (closed ≡ mechanism_unknown)) }
@@ -142,9 +145,9 @@ impl Fresh {
 }
 
 impl Offered {
-    /// Logs in from `host` the user whose name and password the message tells: the authorization identity, empty or the user's
-    /// name, NUL, the user's name, NUL, and the password (RFC 4616, section 2). Otherwise the session is closed with
-    /// SASL_AUTHENTICATION_FAILED (58).
+    /// Logs in from `host` the user whom a PLAIN message `[authzid] NUL authcid NUL passwd` (RFC 4616, section 2) names with the
+    /// right password; authzid must be empty or the authcid. Any other message gives `Closed` with SASL_AUTHENTICATION_FAILED
+    /// (58), for the caller to close the session; an allocation failure gives `NoMemory`. The state is used up either way.
     pub fn login(
         self,
         alloc: Global,
@@ -173,7 +176,7 @@ impl Known {
         self.who.who()
     }
 
-    /// The event that stands for a request of this user from this host, for a core to answer.
+    /// The event by which a core answers a request of this user from this host. The error is an allocation failure.
     pub fn ask(
         &self,
         alloc: Global,

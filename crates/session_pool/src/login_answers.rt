@@ -13,7 +13,8 @@ use msg_login::{SaslAuthenticateReply, SaslHandshakeReply};
 use std::alloc::{AllocError, Global};
 use wire_types::{Boxed, Bytes, ErrorCode, WriteFault};
 
-/// The response to a request that the session answers itself. It is never too long, so the only error is an allocation failure.
+/// The response to a request that the session answers itself, size field included. It is never too long, so the only error is an
+/// allocation failure.
 #[tactic(auto, using(crate::proofs::Short::never_long))]
 fn write_own(alloc: Global, correlation: i32, reply: &Reply) -> Result<Bytes, AllocError>
     requires { is_sendable correlation reply.now ≡ true }
@@ -40,7 +41,7 @@ pub(crate) fn write_versions(
     write_own(alloc, correlation, &reply)
 }
 
-/// The response to a SaslHandshake, with this error, or none where the mechanism is agreed on.
+/// The response to a SaslHandshake with this error, which is `ErrorCode::None` where the mechanism is agreed on.
 #[tactic(auto, using(crate::proofs::Short::handshake_short))]
 pub(crate) fn write_handshake(
     alloc: Global,
@@ -54,7 +55,7 @@ pub(crate) fn write_handshake(
     write_own(alloc, correlation, &reply)
 }
 
-/// The response to a SaslAuthenticate, with this error, or none where the user is logged in.
+/// The response to a SaslAuthenticate with this error, which is `ErrorCode::None` where the user is logged in.
 #[tactic(auto, using(crate::proofs::Short::login_short))]
 pub(crate) fn write_login(
     alloc: Global,

@@ -1,4 +1,4 @@
-//! Laws of what is told and asked before a login.
+//! Laws of what is listed and sent before a login.
 
 ghost use Rattle.std.specs.Prelude.{◌≡◌, ◌≤◌, ℕ, List, length, Some};
 ghost use Rattle.settings_text.specs.declared.document.User.{User};
@@ -12,7 +12,7 @@ pub fn login_is_exact()
     ensures { (users : List User) (message : List ℕ) → LoginIsExact users message }
 {}
 
-/// No message that logs somebody in is longer than the longest one that the users' names and passwords make.
+/// No message that logs somebody in is longer than the longest one that can be made of a user's name and password.
 pub fn no_login_is_longer()
     ensures { (users : List User) (message who : List ℕ) → login_of users message ≡ Some who
         → length message ≤ longest_login users }

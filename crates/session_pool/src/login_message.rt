@@ -9,7 +9,7 @@ use settings_text::User;
 use std::alloc::{AllocError, Global};
 use wire_types::Text;
 
-/// The place of the first NUL; `None` without one.
+/// The place of the first NUL, counted from 0; `None` without one.
 fn find_nul(bytes: &[u8]) -> Option<usize>
     ensures { result ≡ position is_nul bytes.now }
 {
@@ -24,7 +24,7 @@ fn cut_at_nul(bytes: &[u8]) -> Option<(&[u8], &[u8])>
     Some((&bytes[..at], &bytes[at + 1..]))
 }
 
-/// The parts of a PLAIN message.
+/// The parts of a PLAIN message: authzid, authcid and passwd.
 #[derive(Drop)]
 struct Plain<'a> {
     authorization: &'a [u8],
@@ -32,8 +32,8 @@ struct Plain<'a> {
     password: &'a [u8],
 }
 
-/// The three parts of a PLAIN message, which stand between its two NULs (RFC 4616, section 2). `None` where it has more NULs or
-/// fewer.
+/// The three parts of a PLAIN message, which its two NULs separate (RFC 4616, section 2). `None` where it has more NULs or fewer.
+/// Parts may be empty, and needn't be UTF-8.
 fn split_plain(message: &[u8]) -> Option<Plain<'_>>
     ensures { option_map (λ p. (p.authorization.now, p.authentication.now, p.password.now)) result
         ≡ plain_of message.now }
@@ -62,7 +62,8 @@ pub(crate) fn user_of<'u>(users: &'u Users, message: &[u8]) -> Option<&'u User>
     users.find(plain.authentication, plain.password)
 }
 
-/// The name that a PLAIN message tells, whatever its password: its authentication identity. `None` where it is no PLAIN message.
+/// The name that a PLAIN message tells, its authcid, whether a user has it or not. `None` where the message hasn't exactly two
+/// NULs.
 pub fn name_in(message: &[u8]) -> Option<&[u8]>
     ensures { option_map (λ name. name.now) result ≡ option_map (λ p. p.1) (plain_of message.now) }
 {

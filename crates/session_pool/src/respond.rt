@@ -29,23 +29,23 @@ use wire_types::{Bytes, ErrorCode, ReadFault, Text, WriteFault};
 /// What a frame leads to.
 #[derive(Drop)]
 pub(crate) enum SessionAction {
-    /// An answer of the session's own.
+    /// The session answers this itself, and goes on in this state.
     Tells(Bytes, SessionState),
-    /// The reply of a receipt.
+    /// The core has answered: its reply is sent, and the session goes on.
     Answers(Response, Known),
-    /// A last answer, or no bytes, since nobody logged in.
+    /// This last answer is sent, none where it has no bytes, and the session ends, since nobody logged in.
     Refuses(Bytes),
-    /// No request that is served.
+    /// The frame is no request that is served, and the session ends.
     Malformed,
-    /// Memory was refused before anything was submitted.
+    /// An allocation failed before anything was submitted, and the session ends.
     NoMemory,
-    /// The desk didn't take the event.
+    /// The core didn't take the event, and the session ends.
     Stopped(Stop),
-    /// A receipt's reply could not be written.
+    /// The core has answered, but its reply can't be written as a response, and the session ends.
     Unsent(WriteFault),
 }
 
-/// An answer of the session's own, after which it goes on in this state; `NoMemory` where it couldn't be allocated.
+/// An answer of the session's own, after which it goes on in this state; `NoMemory` where the answer couldn't be allocated.
 fn tell(answer: Result<Bytes, AllocError>, state: SessionState) -> SessionAction
     ensures { MatchResult answer (λ bytes. result ≡ outcome.Tells bytes state)
         (λ _. result ≡ outcome.NoMemory) }
@@ -56,7 +56,7 @@ fn tell(answer: Result<Bytes, AllocError>, state: SessionState) -> SessionAction
     }
 }
 
-/// A last answer, with which the session ends, since the login failed; `NoMemory` where it couldn't be allocated.
+/// A last answer, with which the session ends, since the login failed; `NoMemory` where the answer couldn't be allocated.
 fn refuse(answer: Result<Bytes, AllocError>) -> SessionAction
     ensures { MatchResult answer (λ bytes. result ≡ outcome.Refuses bytes)
         (λ _. result ≡ outcome.NoMemory) }
@@ -74,7 +74,8 @@ fn close() -> SessionAction
     SessionAction::Refuses(Bytes::new())
 }
 
-/// Answers a SaslHandshake: agrees on the mechanism, or refuses it with UNSUPPORTED_SASL_MECHANISM (33).
+/// Answers a SaslHandshake: agrees on the mechanism PLAIN, or refuses any other with UNSUPPORTED_SASL_MECHANISM (33) and ends the
+/// session.
 fn offer(alloc: Global, correlation: i32, fresh: Fresh, mechanism: &[u8]) -> SessionAction
     ensures { Says (mechanism_step correlation mechanism.now) result }
 {
@@ -87,7 +88,8 @@ fn offer(alloc: Global, correlation: i32, fresh: Fresh, mechanism: &[u8]) -> Ses
     }
 }
 
-/// Answers a SaslAuthenticate: logs the user in whom the message names, or refuses it with SASL_AUTHENTICATION_FAILED (58).
+/// Answers a SaslAuthenticate: logs the user in whom the message names, or refuses it with SASL_AUTHENTICATION_FAILED (58) and
+/// ends the session.
 fn log_in(
     alloc: Global,
     login: &LoginContext<'_>,
@@ -158,8 +160,8 @@ fn on_offered(
     }
 }
 
-/// Hands an event to the desk, keeps its receipt, and gives its answer. Memory for the receipt is taken before, so that it can't
-/// be lost.
+/// Hands an event to the desk, keeps its receipt in `progress`, and gives its answer. Memory for the receipt is taken before, so
+/// that no receipt is lost.
 fn submit<S, D: Desk<S>>(
     alloc: Global,
     desk: &D,
@@ -193,7 +195,7 @@ fn submit<S, D: Desk<S>>(
     }
 }
 
-/// Answers a request of a user who has logged in: the core does.
+/// Has the core answer a request of a user who has logged in, by the desk.
 fn on_known<S, D: Desk<S>>(
     alloc: Global,
     host: &Text,
@@ -216,7 +218,7 @@ fn on_known<S, D: Desk<S>>(
     }
 }
 
-/// Answers a request in whatever state the session is.
+/// Answers a request in whatever state the session is, by the session itself before a login, by the core after it.
 #[tactic(auto, using(crate::proofs::Sessions::said))]
 fn on_request<S, D: Desk<S>>(
     alloc: Global,
@@ -250,8 +252,8 @@ fn on_request<S, D: Desk<S>>(
     }
 }
 
-/// Answers an ApiVersions in a version that isn't served: UNSUPPORTED_VERSION, and which version of it is (KIP-511). The session
-/// goes on.
+/// Answers an ApiVersions in a version that isn't served: UNSUPPORTED_VERSION, and which versions of ApiVersions are served
+/// (KIP-511). The session goes on.
 fn tell_served(alloc: Global, correlation: i32, state: SessionState) -> SessionAction
     ensures { Says (Tells (unsupported_response correlation) state) result }
 {
@@ -265,7 +267,8 @@ fn refuse_login(alloc: Global, correlation: i32) -> SessionAction
     refuse(write_login(alloc, correlation, ErrorCode::SaslAuthenticationFailed))
 }
 
-/// Reads the request of a frame that came whole, and answers it. Where it is none that is served, that is `Malformed`.
+/// Reads the request of a frame that was kept whole, and answers it. The outcome is `Malformed` where the frame is no request
+/// that is served.
 #[tactic(auto, using(crate::proofs::Sessions::said))]
 fn read<S, D: Desk<S>>(
     alloc: Global,
@@ -291,7 +294,8 @@ fn read<S, D: Desk<S>>(
     }
 }
 
-/// What a frame leads to, of which this came. Its body is read only where its first bytes don't say it.
+/// Answers a frame of which `came` is kept, by the session itself or by the desk, and gives what is to be sent and whether the
+/// session goes on. The frame's body is read only where its first bytes and its length don't decide.
 pub(crate) fn respond<S, D: Desk<S>>(
     alloc: Global,
     login: &LoginContext<'_>,

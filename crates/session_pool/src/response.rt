@@ -20,13 +20,14 @@ use std::io::Write;
 use std::marker::Model;
 use wire_types::{Bytes, Shared, Wire, WriteFault, size, write_array, write_count, write_i32};
 
-/// A response above so many bytes is written part after part.
+/// A Metadata or Fetch response above so many bytes, without its size field, is written part after part.
 const LONGEST_WHOLE: i32 = 65_536;
 
 /// The bytes that are sent for a reply.
 pub(crate) struct Response {
+    /// The whole response, or what stands before the topics of a long one.
     front: Bytes,
-    /// The reply whose topics follow.
+    /// The reply whose topics follow; `None` where the front is all.
     rest: Option<Shared<Reply>>,
 }
 
@@ -49,8 +50,8 @@ impl Drop for Response {
 }
 
 impl Response {
-    /// The response to a request, from its receipt's reply, under this correlation id. The error is `TooLong`, or `NoMemory`
-    /// after an allocation failure.
+    /// The response to a request, from its receipt's reply, under this correlation id; empty for a reply that isn't sent. The
+    /// error is `TooLong`, or `NoMemory` after an allocation failure.
     pub(crate) fn of(
         alloc: Global,
         correlation: i32,
@@ -71,7 +72,7 @@ impl Response {
         })
     }
 
-    /// Writes the response. Where that fails, some of it stands written, from the front.
+    /// Writes the response. After an error some of it may be written, from the front.
     pub(crate) fn send<W: Write>(&self, alloc: Global, writer: &mut W) -> Result<(), SendFault>
         ensures { Wrote (W.contents writer.old) (W.contents writer.new) self.now result }
     {
@@ -83,7 +84,8 @@ impl Response {
     }
 }
 
-/// Writes the topics of a reply, by pieces of about 65,536 bytes.
+/// Writes the topics of a reply: gathered bytes once they are 65,536 or more, before a run of 32,768 bytes or more, and at the
+/// end; such a run by itself. After an error some of it may be written, from the front.
 fn send_topics<W: Write>(alloc: Global, writer: &mut W, reply: &Reply) -> Result<(), SendFault>
     ensures { Wrote (W.contents writer.old) (W.contents writer.new) (topics_of reply.now) result }
 {
@@ -92,7 +94,8 @@ fn send_topics<W: Write>(alloc: Global, writer: &mut W, reply: &Reply) -> Result
     spill(&mut gathered, writer)
 }
 
-/// Gathers the topics of a Metadata or Fetch reply one after the other, and writes them whenever enough are gathered.
+/// Gathers the topics of a Metadata or Fetch reply one after the other, after what is gathered already, and writes them whenever
+/// enough are gathered. What is left then stays in `gathered`, for the caller to write with `spill`. Another reply has no topics.
 fn stream_topics<W: Write>(
     gathered: &mut Vec<u8>,
     writer: &mut W,
@@ -119,8 +122,8 @@ fn front_of(alloc: Global, correlation: i32, reply: &Reply) -> Result<Option<Byt
     }
 }
 
-/// What the size field of a long response tells, the size of the reply and of its correlation id; `None` for one of up to 65,536
-/// bytes, or one too long for the field.
+/// What the size field of a long response says: the bytes of the reply and of its correlation id. `None` where these are up to
+/// 65,536, or too many for the field.
 fn long_size<B: Wire>(answer: &B) -> Option<i32>
     ensures { IfSome result (IsSize B.grammar answer.now) }
 {
@@ -132,7 +135,7 @@ fn long_size<B: Wire>(answer: &B) -> Option<i32>
     }
 }
 
-/// What a long Metadata response begins with, up to its topics; `None` where it isn't long.
+/// What a long Metadata response begins with, its size field first, up to its topics; `None` where it isn't long.
 fn metadata_front(
     alloc: Global,
     correlation: i32,
@@ -169,7 +172,7 @@ fn put_metadata_front(
     write_count(out, answer.topics.len())
 }
 
-/// What a long Fetch response begins with, up to its topics; `None` where it isn't long.
+/// As `metadata_front`, but of a Fetch response.
 fn fetch_front(
     alloc: Global,
     correlation: i32,

@@ -26,7 +26,7 @@ use std::alloc::Global;
 use std::io::{BufReader, Read, Write};
 use wire_types::{Bytes, Text, WriteFault};
 
-/// What a session leaves: a receipt for each event that was answered, in order, and its seat.
+/// What a session leaves: a receipt for each event that was answered, in order, its seat, and why it ended.
 #[derive(Drop)]
 pub struct SessionEnd<S> {
     pub receipts: Vec<Receipt>,
@@ -41,7 +41,7 @@ pub(crate) struct Progress<S> {
     pub(crate) receipts: Vec<Receipt>,
 }
 
-/// How many bytes a frame may have after its size field, at most 104,857,600, and how many frames are served.
+/// How many bytes a frame may have after its size field, at most 104,857,600, and how many frames a session may send.
 #[derive(Clone, Copy, Debug, PartialEq, Eq)]
 pub struct Limits {
     pub frame: u32,
@@ -72,7 +72,7 @@ fn why_of(fault: WriteFault) -> EndReason
     }
 }
 
-/// Writes bytes, and then gives what comes next; or `WriteFault`, where the write fails.
+/// Writes bytes, and then gives `next`; or `WriteFault`, where the write fails.
 fn send<W: Write>(
     writer: &mut W,
     bytes: &Bytes,
@@ -86,7 +86,7 @@ fn send<W: Write>(
     }
 }
 
-/// Writes a response, and then gives what comes next; or why the session ends, where that fails.
+/// Writes a response, and then gives `next`; or `WriteFault` or `NoMemory`, where that fails.
 fn send_response<W: Write>(
     alloc: Global,
     writer: &mut W,
@@ -128,8 +128,8 @@ const LONGEST_HANDSHAKE: usize = 65_546;
 
 const LONGEST_BEFORE_MESSAGE: usize = 32_781;
 
-/// How long a frame may be that is kept whole: up to `limit` once the user is known; before that, the longest login of a user, or
-/// a SaslHandshake, if that is longer.
+/// How long a frame may be that is kept whole: `limit` once the user is known; before that the longest SaslAuthenticate that logs
+/// a user in, or the longest SaslHandshake, if that is longer, but at most `limit`.
 fn most_kept(users: &Users, state: &SessionState, limit: u32) -> u32
     ensures { result ≡ most_kept users.now limit state.now }
 {
@@ -140,7 +140,7 @@ fn most_kept(users: &Users, state: &SessionState, limit: u32) -> u32
     login.max(LONGEST_HANDSHAKE).min(limit as usize) as u32
 }
 
-/// Tells the gate of the receipt at this place, if there is one.
+/// Tells the gate of the receipt at this place of `receipts`, if there is one.
 fn tell_receipt<G: Gate>(gate: &G, receipts: &[Receipt], place: usize) {
     if let Some(receipt) = receipts.get(place) {
         gate.answered(receipt);
@@ -156,7 +156,7 @@ fn tell_unserved<G: Gate>(gate: &G, session: u64, outcome: &SessionAction, came:
     }
 }
 
-/// Tells the gate of a user who has logged in by this frame.
+/// Tells the gate, before the next frame, of a user whom this frame has logged in and whose answer is written.
 fn tell_login<G: Gate>(
     gate: &G,
     session: u64,
@@ -170,8 +170,8 @@ fn tell_login<G: Gate>(
     }
 }
 
-/// Reads and answers one frame, and gives the session's next state, or why it ends. The gate is told of the event's receipt
-/// before its answer is written, and of a login after that.
+/// Reads and answers one frame, and gives the session's next state, or why it ends. The gate is told of the event's receipt and
+/// of a frame that isn't served before the answer is written, and of a login after that.
 #[tactic(auto, using(crate::proofs::Sessions::turned_off))]
 fn turn<S, Rd: Read, Wr: Write, D: Desk<S>, G: Gate>(
     alloc: Global,
@@ -205,7 +205,7 @@ fn turn<S, Rd: Read, Wr: Write, D: Desk<S>, G: Gate>(
     (progress, next)
 }
 
-/// Reads and answers frames until the session ends.
+/// Reads and answers frames until the session ends, and calls the gate before and after each.
 fn serve<S, Rd: Read, Wr: Write, D: Desk<S>, G: Gate>(
     alloc: Global,
     context: &SessionContext<'_, D, G>,
@@ -250,8 +250,9 @@ fn serve<S, Rd: Read, Wr: Write, D: Desk<S>, G: Gate>(
     }
 }
 
-/// Serves a session until its input ends, it is closed, or so many frames were served. The reader is read through a buffer of
-/// 8,192 bytes and given up with it; each answer of up to 65,536 bytes is one write, where the writer takes it.
+/// Serves a session until its input ends, an error closes it, or `limits.frames` were served. The reader is read through a
+/// buffer, and dropped with it; each answer of up to 65,536 bytes is one write, where the writer takes it whole. Of the end the
+/// gate isn't told: the caller does that.
 #[tactic(auto, using(crate::proofs::Sessions::nothing_done))]
 pub fn serve_session_in<S, Rd: Read + Drop, Wr: Write, D: Desk<S>, G: Gate>(
     alloc: Global,
@@ -280,8 +281,8 @@ pub fn serve_session_in<S, Rd: Read + Drop, Wr: Write, D: Desk<S>, G: Gate>(
     }
 }
 
-/// Serves a session as `serve_session_in` does, and lists each api before the login with the versions in which it is served. The
-/// session's number is the gate's.
+/// As `serve_session_in`, with its context in single arguments, and each api listed before the login in the versions in which it
+/// is served. `session` is the number by which the gate knows the session.
 pub fn serve_session<S, Rd: Read + Drop, Wr: Write, D: Desk<S>, G: Gate>(
     alloc: Global,
     session: u64,

@@ -1,4 +1,4 @@
-//! Who tells the keeper what to do next.
+//! Who says what the keeper does next.
 
 ghost use Rattle.std.specs.Prelude.{◌≡◌, ◌<◌, ℕ, Bool, Option, Some, IfSome, is_ok};
 ghost use Rattle.session_pool.specs.declared.steps.Step.TheVariants.{Mark};
@@ -16,7 +16,7 @@ pub enum Step {
     Mark,
 }
 
-/// Tells the keeper its steps, one after the other, and sees the core round each.
+/// Gives the keeper its steps, one after the other, and sees the core before and after each.
 pub trait Steps {
     /// How many markers are pending, where the steps go by that: then a mark is the next one where some are, and else a tick.
     ghost owed: { Self → Option ℕ };
@@ -40,18 +40,19 @@ pub trait Steps {
         ensures { owed self.new ≡ pending_after_outcome (owed self.old) outcome };
 }
 
-/// Tells the moments at which the core is to be told the time, in milliseconds.
+/// Gives the moments at which the core is told the time, in milliseconds.
 pub trait Clock {
     /// That a clock of the first state, told whether all workers have ended, gives this and leaves the second state.
     ghost gives: { Self → Bool → Option ℕ → Self → Type 0 };
 
-    /// The next moment, in milliseconds; `None` where there is none any more. `done` says that all workers have ended.
+    /// The next moment, in milliseconds; after `None` no further one comes. `done` says that all workers have ended. It may wait
+    /// until the moment has come.
     fn next(&mut self, done: bool) -> Option<u64>
         ensures { gives self.old done result self.new };
 }
 
-/// Steps by a clock: a tick for each of its moments, and marks after each as long as some are owed. The keeper ends where the
-/// clock gives no moment, or the desk takes no more.
+/// Steps by a clock: a tick for each of its moments, and marks after each as long as markers are pending. The keeper ends where
+/// the clock gives no moment, or the core doesn't take a step.
 #[derive(Drop)]
 pub struct Clocked<C: Clock> {
     clock: C,
@@ -60,7 +61,7 @@ pub struct Clocked<C: Clock> {
 }
 
 impl<C: Clock> Clocked<C> {
-    /// Steps by this clock, before its first moment; no marker is to be written yet.
+    /// Steps by this clock, before its first moment, as if no marker were pending.
     pub fn new(clock: C) -> Clocked<C>
         ensures { (result.clock ≡ clock) × (result.left ≡ 0) }
     {

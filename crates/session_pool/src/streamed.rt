@@ -1,4 +1,5 @@
-//! Values that are written part after part: what they spell is gathered, and goes to a writer whenever there is enough of it.
+//! Values that are written part after part: their bytes are gathered, and go to a writer whenever 65,536 are gathered, or before
+//! a run of 32,768 bytes or more, which is written from where it stands.
 
 ghost use Rattle.std.specs.Prelude.{◌≡◌, List, ℕ, [], length, OnOk};
 ghost use Rattle.wire_types.specs.Spelling.{many_written};
@@ -24,7 +25,7 @@ const UNCOPIED: usize = 32_768;
 /// Why not all was written.
 #[derive(Clone, Copy, Debug, PartialEq, Eq)]
 pub(crate) enum SendFault {
-    /// Memory was refused.
+    /// An allocation failed.
     NoMemory,
     /// A write failed.
     Write,
@@ -41,7 +42,7 @@ impl From<AllocError> for SendFault {
     }
 }
 
-/// What is streamed has a size, so no length in it is too long for its field.
+/// Only values whose size is known to fit are streamed, so the fault is never that a length is too long for its field.
 impl From<WriteFault> for SendFault {
     ghost use Rattle.session_pool.specs.declared.streamed.SendFault.TheVariants as faults;
 
@@ -63,7 +64,8 @@ impl From<io::Error> for SendFault {
     }
 }
 
-/// Writes what was gathered, and forgets it.
+/// Writes what was gathered, and then empties it. After an error some of it may be written, from the front, and it stays
+/// gathered.
 pub(crate) fn spill<W: Write>(gathered: &mut Vec<u8>, writer: &mut W) -> Result<(), SendFault>
     ensures streams { Streams (W.contents writer.old) (W.contents writer.new) gathered.old.items []
         gathered.new.items result }
@@ -74,7 +76,7 @@ pub(crate) fn spill<W: Write>(gathered: &mut Vec<u8>, writer: &mut W) -> Result<
     Ok(())
 }
 
-/// Writes what was gathered, once it has 65,536 bytes.
+/// As `spill`, but only where 65,536 bytes or more are gathered.
 fn spill_enough<W: Write>(gathered: &mut Vec<u8>, writer: &mut W) -> Result<(), SendFault>
     ensures { Streams (W.contents writer.old) (W.contents writer.new) gathered.old.items []
         gathered.new.items result }
@@ -85,7 +87,8 @@ fn spill_enough<W: Write>(gathered: &mut Vec<u8>, writer: &mut W) -> Result<(), 
     spill(gathered, writer)
 }
 
-/// Gathers bytes after those before. Where there are 32,768 or more, they are written from where they stand.
+/// Gathers bytes after those gathered before. Where there are 32,768 or more, what was gathered is written, and then the bytes,
+/// from where they stand.
 fn stream_bytes<W: Write>(
     gathered: &mut Vec<u8>,
     writer: &mut W,
@@ -103,7 +106,7 @@ fn stream_bytes<W: Write>(
     spill_enough(gathered, writer)
 }
 
-/// A value of which no more is gathered at once than a part.
+/// A value of which only a part is gathered at once.
 pub(crate) trait Streamed {
     /// The bytes that spell it.
     ghost text: { Self → List ℕ };
@@ -151,8 +154,8 @@ impl Streamed for Piece {
     }
 }
 
-/// Appends what stands before the records of a partition in a Fetch response: its error, its offsets, its aborted transactions
-/// and the records' length.
+/// Appends what stands before the records of a partition in a Fetch response: its index, its error, its high watermark and last
+/// stable offset, its aborted transactions and the records' length.
 fn put_records_head(out: &mut Vec<u8>, records: &FetchedRecords) -> Result<(), WriteFault>
     ensures { Puts records_head (records_head_of records.now) out.old.items result out.new.items }
 {
@@ -176,7 +179,7 @@ impl Streamed for FetchedRecords {
     }
 }
 
-/// Appends what stands before the partitions of a topic in a Fetch response: its name, and how many they are.
+/// Appends what stands before the partitions of a topic in a Fetch response: its name, and the number of its partitions.
 fn put_topic_head(out: &mut Vec<u8>, topic: &Topic<FetchedRecords>) -> Result<(), WriteFault>
     ensures { Puts topic_head (topic.now.name, length topic.now.partitions) out.old.items result
         out.new.items }

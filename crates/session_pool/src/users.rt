@@ -12,7 +12,8 @@ use std::alloc::Global;
 use std::marker::Model;
 use wire_types::Items;
 
-/// How many bytes the longest PLAIN message has that logs this user in, or the greatest number of its type where that is less.
+/// How many bytes the longest PLAIN message has that logs this user in: the name twice, the password and two NULs; at most
+/// `usize::MAX`.
 fn length_of_login(user: &User) -> usize
     ensures { result ≡ min (length_of_login user.now) (2 ^ 64 - 1) }
 {
@@ -37,7 +38,7 @@ impl Model for Users {
 }
 
 impl Users {
-    /// The users, checked. The fault is `User` where a name or password is empty or holds a NUL, or a name stands twice, and
+    /// Checks the users. The fault is `User` where a name or password is empty or holds a NUL, or a name stands twice, and
     /// `NoMemory` after an allocation failure.
     pub fn new(alloc: Global, users: Items<User>) -> Result<Users, SettingsFault>
         ensures { Admits (if are_users users then Ok users else Err faults.User) result }
@@ -48,7 +49,7 @@ impl Users {
         }
     }
 
-    /// The users, of whom it was checked that they may log in.
+    /// The users, who were checked before.
     pub fn of_checked(users: CheckedUsers) -> Users
         ensures { result ≡ users }
     {
@@ -64,7 +65,7 @@ impl Users {
         self.users.len()
     }
 
-    /// Whether a user has this name and this password. Both are looked at, so that the time doesn't tell which is wrong.
+    /// Whether a user has this name and this password. Both are compared in full, so that the time doesn't tell which is wrong.
     fn has(user: &User, name: &[u8], password: &[u8]) -> bool
         ensures { result ≡ is_user name.now password.now user.now }
     {
@@ -86,8 +87,7 @@ impl Users {
         found
     }
 
-    /// How many bytes the longest PLAIN message has that logs one of them in, or the greatest number of its type where that is
-    /// less.
+    /// How many bytes the longest PLAIN message has that logs one of the users in; 0 without users, at most `usize::MAX`.
     #[tactic(auto, using(crate::proofs::Longest::none_so_far, crate::proofs::Longest::one_more, crate::proofs::Longest::all_seen))]
     pub(crate) fn longest_login(&self) -> usize
         ensures { result ≡ min (longest_login self.now) (2 ^ 64 - 1) }

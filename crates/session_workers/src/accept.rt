@@ -18,14 +18,15 @@ use wire_types::{Shared, Text};
 /// A session over a connection.
 pub(crate) type Connection<'x, R> = Job<Requests<'x>, Guest<'x, R>>;
 
-/// How long it takes until a listener is asked again that had no connection to give, or couldn't give it, and until it is looked
-/// again whether a job can be handed in, or a connection is open, in milliseconds.
+/// In milliseconds: how long the accepting thread waits before it asks a listener again that had no connection to give, or
+/// couldn't give it, and before it looks again whether the workers' queue has room, or a connection is open.
 const TURN: u64 = 10;
 
-/// For how long it isn't told again that connections are turned away, in seconds.
+/// For how many seconds after the doorman was told that a connection is turned away it isn't told of another one.
 const QUIET: u64 = 1;
 
-/// Lasts for so long, from a moment on, if there is an end to it, and until someone closes, where someone may.
+/// How long something goes on: from the moment `since` on, for `time`, if there is an end to it, and until `closing` is closed,
+/// if there is such a flag.
 #[derive(Clone, Copy)]
 struct Term<'x> {
     since: Instant,
@@ -63,12 +64,13 @@ impl<'x> Term<'x> {
     }
 }
 
-/// Sleeps for 10 milliseconds, before it is looked again.
+/// Sleeps for 10 milliseconds.
 fn rest<R: time::Clock>(rt: &R) {
     thread::sleep(rt, Duration::from_millis(TURN));
 }
 
-/// Waits for a connection, and gives it or why it couldn't be accepted. `None` once the term is over: no more are taken.
+/// Waits for a connection, and gives it, or why it couldn't be accepted. `None` once the term is over: no more are taken. With a
+/// term the listener must not block; without one this waits in the listener.
 fn next_connection<R: Wait + time::Clock>(
     rt: &R,
     listener: &TcpListener,
@@ -89,7 +91,7 @@ fn next_connection<R: Wait + time::Clock>(
     None
 }
 
-/// What a connection comes to that was taken.
+/// What an accepted connection comes to.
 #[derive(Drop)]
 enum Taken<'x, R: Wait> {
     /// A session over it.
@@ -98,16 +100,16 @@ enum Taken<'x, R: Wait> {
     TurnedAway(Text),
 }
 
-/// What the doorman was told last.
+/// What the doorman was told.
 #[derive(Clone, Copy)]
 struct Told {
-    /// That a connection couldn't be accepted; and none could since.
+    /// Whether the last connection couldn't be accepted.
     failed: bool,
-    /// When it was told that one was turned away.
+    /// When the doorman was last told that a connection was turned away.
     turned_away: Option<Instant>,
 }
 
-/// What connections are let in by, and who is told of those that wait or aren't.
+/// By what connections are let in, and who is told of those that wait or aren't served.
 #[derive(Drop)]
 pub(crate) struct Door<'x, R, D> {
     pub(crate) rt: &'x R,
@@ -117,13 +119,14 @@ pub(crate) struct Door<'x, R, D> {
     /// The hosts of the connections that are served or wait. Where a host may have any number, they aren't counted.
     pub(crate) hosts: &'x Mutex<Hosts>,
     pub(crate) open: &'x OpenConnections,
-    /// Is closed once no further request is read.
+    /// Is set once no further request is read.
     pub(crate) reading: &'x ShutdownFlag,
     pub(crate) doorman: &'x D,
 }
 
 impl<'x, R: Wait + time::Clock, D: Doorman> Door<'x, R, D> {
-    /// The session over an accepted connection, for a worker to serve. It is among the open connections from here on.
+    /// The session over an accepted connection, for a worker to serve; sets TCP_NODELAY. The connection is among the open ones
+    /// until the job is dropped. The error is the socket's, or an allocation failure.
     fn job_of(
         &self,
         session: u64,
@@ -159,7 +162,7 @@ impl<'x, R: Wait + time::Clock, D: Doorman> Door<'x, R, D> {
     }
 
     /// Makes a session of an accepted connection, unless its host has as many as it may: then it is turned away. The host is the
-    /// peer's address without the port. The error says why there is neither.
+    /// peer's address without the port. The error says why the connection couldn't be accepted, or its session not be made.
     fn take(
         &self,
         session: u64,
@@ -178,12 +181,12 @@ impl<'x, R: Wait + time::Clock, D: Doorman> Door<'x, R, D> {
         Ok(Taken::Session(self.job_of(session, stream, host, counted)?))
     }
 
-    /// Whether as many connections were taken as are served in all; never where they are served without end.
+    /// Whether `session` connections are as many as are served in all; never where they are served without end.
     fn is_used_up(&self, session: u64) -> bool {
         !self.options.endless && session >= self.options.connections
     }
 
-    /// Whether the doorman was told less than a second ago that a connection was turned away.
+    /// Whether the doorman was told less than a second ago that a connection was turned away, or the clock can't tell.
     fn is_just_told(&self, told: &Told) -> bool {
         match told.turned_away {
             Some(moment) => match moment.elapsed(self.rt) {
@@ -194,8 +197,8 @@ impl<'x, R: Wait + time::Clock, D: Doorman> Door<'x, R, D> {
         }
     }
 
-    /// Tells the doorman of a connection that isn't served: the first of those that can't be accepted, and one a second of those
-    /// that are turned away.
+    /// Tells the doorman of a connection that isn't served, and notes that in `told`: the first in a row of those that can't be
+    /// accepted, and one a second of those that are turned away.
     fn tell(&self, taken: &io::Result<Taken<'x, R>>, told: &mut Told) {
         match taken {
             Ok(Taken::Session(_)) => {}
@@ -214,7 +217,7 @@ impl<'x, R: Wait + time::Clock, D: Doorman> Door<'x, R, D> {
         told.failed = taken.is_err();
     }
 
-    /// Whether connections that wait for a worker are given up: there is a grace, and no more are taken.
+    /// Whether connections that wait for a worker are given up: there is a grace, and the term is over.
     fn is_over(&self, opening: Option<Term<'_>>) -> bool {
         match (self.options.grace, opening) {
             (Some(_), Some(opening)) => opening.is_over(self.rt),
@@ -222,8 +225,8 @@ impl<'x, R: Wait + time::Clock, D: Doorman> Door<'x, R, D> {
         }
     }
 
-    /// Hands a job to the workers, once one can take it. Gives whether it did: not where there are no workers, or the open
-    /// connections are to be seen out.
+    /// Hands a job to the workers, once their queue has room for it. Gives whether it did; else, where there are no workers, or
+    /// the term is over and there is a grace, the job is dropped, which closes its connection.
     fn hand_in(
         &self,
         opening: Option<Term<'_>>,
@@ -243,8 +246,9 @@ impl<'x, R: Wait + time::Clock, D: Doorman> Door<'x, R, D> {
         unreachable!()
     }
 
-    /// Accepts connections and hands each to the workers, until so many were taken, the term is over, or there are no workers.
-    /// One that can't be accepted counts as one of so many, one that is turned away doesn't.
+    /// Accepts connections and hands each to the workers, until as many were taken as are served in all, the term is over, or
+    /// there are no workers; then closes the workers' queue. A connection that can't be accepted counts as taken, one that is
+    /// turned away doesn't.
     fn accept_until(
         &self,
         listener: &TcpListener,
@@ -280,7 +284,7 @@ impl<'x, R: Wait + time::Clock, D: Doorman> Door<'x, R, D> {
         }
     }
 
-    /// Waits until no connection is open any more, or a term is over.
+    /// Waits until no connection is open any more, or the term is over; looks every 10 milliseconds.
     fn wait_out(&self, term: Term<'_>) {
         for _ in self.rt.forever() {
             if self.open.is_empty(self.rt) || term.is_over(self.rt) {
@@ -290,8 +294,7 @@ impl<'x, R: Wait + time::Clock, D: Doorman> Door<'x, R, D> {
         }
     }
 
-    /// Tells the doorman of each connection that is still open after the grace. Where an allocation fails for that, nobody is
-    /// told.
+    /// Tells the doorman of each connection that is still open after the grace; of none, where an allocation fails for that.
     fn tell_closed(&self, grace: Duration) {
         if let Ok(sessions) = self.open.sessions(self.rt, self.alloc) {
             for session in sessions {
@@ -301,7 +304,7 @@ impl<'x, R: Wait + time::Clock, D: Doorman> Door<'x, R, D> {
     }
 
     /// Sees the open connections out. They are served until the term is over; then no further request is read, and those that are
-    /// still open after the grace are closed.
+    /// still open after the grace are closed. Returns once none is open, or they are closed.
     fn see_out(&self, opening: Term<'_>, grace: Duration) {
         self.wait_out(opening);
         self.reading.close();
@@ -313,9 +316,10 @@ impl<'x, R: Wait + time::Clock, D: Doorman> Door<'x, R, D> {
         self.open.shut_down(self.rt, Shutdown::Both);
     }
 
-    /// Accepts a listener's connections and hands each to the workers, until so many were taken, the time has passed for which
-    /// they are taken, or the broker is told to take no more. Then those that are open are seen out, where there is a grace, or
-    /// else served to their end.
+    /// Accepts a listener's connections and hands each to the workers, until as many were taken as are served in all, the
+    /// options' time `open` has passed, `closing` is set, or there are no workers. Then those that are open are seen out
+    /// (`see_out`), where there is a grace, and `open` or `closing` is given; else they are served to their end. With `open` or
+    /// `closing` none is accepted where the listener can't be made not to block, or the clock not be read.
     pub(crate) fn accept_all(
         &self,
         listener: &TcpListener,

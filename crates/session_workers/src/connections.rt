@@ -23,26 +23,26 @@ use wire_types::Shared;
 pub struct ConnectionOptions {
     /// So many connections are served at once. 257 more wait for a worker, and the others in the listener's queue.
     pub workers: usize,
-    /// So many are served in all, unless that is endless.
+    /// So many are served in all; without effect where `endless` holds.
     pub connections: u64,
-    /// Whether connections aren't counted.
+    /// Whether connections are served without end, and not counted.
     pub endless: bool,
-    /// So many connections of one host are served or wait for a worker at once, if that is limited.
+    /// So many connections of one host are served or wait for a worker at once; `None` for any number.
     pub per_host: Option<u64>,
-    /// For so long connections are taken, if there is an end to it.
+    /// For so long connections are taken; `None` for always.
     pub open: Option<Duration>,
-    /// Once that has passed, or no more are to be taken, no further request is read, and each connection that is still open after
-    /// so long is closed. Where there is none, they are served to their end.
+    /// Once the time of `open` has passed, or someone has closed, no further request is read, and each connection that is still
+    /// open so long after that is closed. With `None` connections are served to their end.
     pub grace: Option<Duration>,
-    /// After so long a wait for its peer a session ends, if it ever does. It is above zero.
+    /// After so long a wait for its peer a session ends, `None` for never. It is above zero.
     pub idle: Option<Duration>,
-    /// Within so long from its beginning a session's user is known, or it ends.
+    /// Within so long from its beginning a session's user is known, or the session ends. It is the time for a first frame too.
     pub login_within: Duration,
     /// Within so long a frame comes, from its first byte to its last, or its session ends.
     pub frame_within: Duration,
     pub sessions: SessionOptions,
-    /// For how long at most the answer to a Fetch is held back that brings no record, within what the request would wait; if it
-    /// ever is.
+    /// For how long at most the answer to a Fetch that brings no record is held back, within the request's max_wait_ms; `None`
+    /// for not at all.
     pub patience: Option<Duration>,
 }
 
@@ -54,11 +54,11 @@ pub struct Service<'x> {
     pub options: ConnectionOptions,
 }
 
-/// How many connections wait for a worker in the channel, where one more waits for its turn. Each has a descriptor, of which a
+/// How many connections wait for a worker in the workers' queue; one more waits for room there. Each has a descriptor, of which a
 /// process mostly has 1,024.
 const WAITING: usize = 256;
 
-/// Does what `serve_connections` does, with all that the threads share borrowed for one lifetime.
+/// As `serve_connections`, with all that the threads share borrowed for one lifetime.
 fn serve_lent<
     'x,
     'r,
@@ -107,9 +107,10 @@ fn serve_lent<
     )
 }
 
-/// Serves the connections of a listener at a desk, while the keeper does its steps on the calling thread. They are accepted in a
-/// thread of their own, which also sees them out once no more are taken; where none can be made for it, none is accepted. Where
-/// someone may close, it is closed once all is served. The keeper's end is the last.
+/// Serves the connections of a listener at a desk, while the keeper does its steps on the calling thread. A thread of its own
+/// accepts them, as long as the options say, and no longer than until `closing` is set, if it is given; then it sees them out,
+/// where there is a grace. `closing` is set too once all is served. Gives what is left of the sessions and, as the last end, the
+/// keeper's. The error is `NoMemory`, `NoThread` where no thread can be made to accept or to serve, or `NoSeat`.
 pub fn serve_connections<
     'x,
     'r,

@@ -10,7 +10,7 @@ use std::sync::{Mutex, Wait};
 use std::time::Duration;
 use wire_types::{Shared, Text};
 
-/// A connection that its host is counted to have, until this is dropped.
+/// A connection that counts among those of its host, until this is dropped.
 pub(crate) struct Counted<'x, R: Wait> {
     rt: &'x R,
     hosts: &'x Mutex<Hosts>,
@@ -18,7 +18,8 @@ pub(crate) struct Counted<'x, R: Wait> {
 }
 
 impl<'x, R: Wait> Counted<'x, R> {
-    /// Counts one connection more of a host, until what this gives is dropped; `None` where the host has as many as it may.
+    /// Counts one connection more of a host, until the result is dropped; `None` where the host has as many as it may. The error
+    /// is an allocation failure, which counts nothing.
     pub(crate) fn enter(
         rt: &'x R,
         alloc: Global,
@@ -43,7 +44,7 @@ impl<'x, R: Wait> Drop for Counted<'x, R> {
     }
 }
 
-/// The stream of a session.
+/// The stream of a session whose connection is open.
 #[derive(Drop)]
 struct Open {
     session: u64,
@@ -57,7 +58,7 @@ pub(crate) struct OpenConnections {
 }
 
 impl OpenConnections {
-    /// No connection is open.
+    /// A table without an open connection.
     pub(crate) fn new(alloc: Global) -> OpenConnections {
         OpenConnections {
             all: Mutex::new(Vec::new(alloc)),
@@ -69,14 +70,13 @@ impl OpenConnections {
         self.all.lock(rt).is_empty()
     }
 
-    /// The numbers of the sessions whose connections are open.
+    /// The numbers of the sessions whose connections are open. The error is an allocation failure.
     pub(crate) fn sessions<R: Wait>(&self, rt: &R, alloc: Global) -> Result<Vec<u64>, AllocError> {
         let all = self.all.lock(rt);
         all.iter().map(|open| open.session).collect(alloc)
     }
 
-    /// Shuts each open connection down, for reading or for both reading and writing. Whoever waits in such a call goes on at
-    /// once.
+    /// Shuts each open connection down, for reading, or for reading and writing. Threads that wait in such a call go on at once.
     pub(crate) fn shut_down<R: Wait>(&self, rt: &R, how: Shutdown) {
         let all = self.all.lock(rt);
         for open in all.iter() {
@@ -98,7 +98,7 @@ pub(crate) struct Entered<'x, R: Wait> {
 }
 
 impl<'x, R: Wait> Entered<'x, R> {
-    /// Puts a session's connection among the open ones, until what this gives is dropped.
+    /// Puts a session's connection among the open ones, until the result is dropped. The error is an allocation failure.
     pub(crate) fn enter(
         rt: &'x R,
         open: &'x OpenConnections,
@@ -119,7 +119,7 @@ impl<'x, R: Wait> Drop for Entered<'x, R> {
     }
 }
 
-/// What is read from a connection, which comes to its end where no further request is to be read.
+/// The reading half of a connection, which is at its end once no further request is read.
 #[derive(Drop)]
 pub(crate) struct Requests<'x> {
     pub(crate) stream: Shared<TcpStream>,
@@ -127,7 +127,7 @@ pub(crate) struct Requests<'x> {
 }
 
 impl<'x> Read for Requests<'x> {
-    /// Reads from the connection. Once no further request is to be read, it is at its end.
+    /// Reads from the connection; gives 0, its end, once no further request is read.
     fn read(&mut self, piece: &mut [u8]) -> io::Result<usize> {
         if self.reading.is_closed() {
             return Ok(0);
@@ -144,8 +144,8 @@ impl<'x> OpenStream for Requests<'x> {
     }
 }
 
-/// What is written to a connection. It is among the open ones until this is dropped, whatever became of its session, and counted
-/// where connections are.
+/// The writing half of a connection. As long as it isn't dropped, the connection is among the open ones, and counts for its host,
+/// where hosts are counted.
 #[derive(Drop)]
 pub(crate) struct Guest<'x, R: Wait> {
     pub(crate) stream: Shared<TcpStream>,

@@ -19,8 +19,8 @@ use std::time;
 use std::time::{Duration, Instant};
 use wire_types::{Shared, Text};
 
-/// A session that is to be served: its number, what is read and written, the peer's host, who may log in, and the times that the
-/// peer has, from when a worker takes the session.
+/// A session that is to be served: its number, what it reads and writes, the peer's host, who may log in, its limits, and the
+/// times that the peer has from when a worker takes the session.
 #[derive(Drop)]
 pub struct Job<Rd, Wr> {
     pub session: u64,
@@ -30,13 +30,13 @@ pub struct Job<Rd, Wr> {
     pub users: Shared<Users>,
     pub limits: Limits,
     pub times: Times,
-    /// When its connection was taken, if that can be told: who has waited long for a worker, and then sends no whole frame, is
-    /// waited for less.
+    /// When its connection was accepted; `None` where the clock couldn't be read. The wait for a worker since then is taken off
+    /// the time for a first frame (`Times::after`).
     pub taken: Option<Instant>,
     pub ghost within: { limits.frame ≤ LIMIT },
 }
 
-/// For how long a connection has waited that was taken at this moment; zero where that can't be told.
+/// How long ago this moment is, at which a connection was accepted; zero where that can't be told.
 pub(crate) fn waited<T: time::Clock>(rt: &T, taken: Option<Instant>) -> Duration {
     let Some(taken) = taken else {
         return Duration::ZERO;
@@ -44,7 +44,8 @@ pub(crate) fn waited<T: time::Clock>(rt: &T, taken: Option<Instant>) -> Duration
     taken.elapsed(rt).unwrap_or(Duration::ZERO)
 }
 
-/// What all workers share: how versions are listed before a login, the desk, the gate and the doorman, and who has users wait.
+/// What all workers share: how versions are listed before a login, the desk, the gate and the doorman, and what makes users wait
+/// that ask too fast.
 #[derive(Drop)]
 pub(crate) struct WorkerContext<'x, 'r, L: DeskLedger, R: Wait, G, D, T> {
     pub(crate) rt: &'x T,

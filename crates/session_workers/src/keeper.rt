@@ -12,7 +12,7 @@ use std::alloc::Global;
 use std::sync::Wait;
 use std::sync::atomic::{AtomicU64, Ordering};
 
-/// How many markers are still to be written, as the reply to a tick or a mark tells it; 0 for any other reply.
+/// How many markers are pending, as the reply to a tick or a mark says; 0 for any other reply.
 fn markers_left(reply: &Reply) -> u64
     ensures { result ≡ markers_left reply.now }
 {
@@ -32,8 +32,9 @@ fn event_of(step: Step) -> Event
     }
 }
 
-/// Hands the event of a step to the desk, while whoever told the step looks, keeps its receipt, for which memory is taken first,
-/// and gives how many markers are still pending.
+/// Hands the event of a step to the desk, which shows the core to `steps` before and after it, keeps its receipt, for which
+/// memory is taken first, and gives how many markers are still pending. The error is `NoMemory` before anything was handed in, or
+/// `Stopped`.
 #[tactic(auto, using(crate::proofs::Keeping::one_more))]
 fn submit<L: DeskLedger, R: Wait, K: Steps>(
     desk: &LockedDesk<L, R>,
@@ -61,7 +62,7 @@ fn submit<L: DeskLedger, R: Wait, K: Steps>(
     }
 }
 
-/// Why the keeper ends after the step with this outcome.
+/// Why the keeper ends where `steps` has it end after a step with this outcome: `Closed`, or why the step wasn't taken.
 fn why_of(outcome: Result<u64, EndReason>) -> EndReason {
     match outcome {
         Ok(_) => EndReason::Closed,
@@ -70,7 +71,8 @@ fn why_of(outcome: Result<u64, EndReason>) -> EndReason {
 }
 
 /// Hands the event of each step to the desk, one after the other, until there is no next step or `steps` has the keeper end.
-/// `running` is how many workers haven't ended. Gives the keeper's receipts, and why it ended.
+/// `running` is how many workers haven't ended. Gives the keeper's receipts, its seat, and why it ended: why a step wasn't
+/// taken, where `steps` has the keeper end on that, else `Closed`.
 pub(crate) fn keep<L: DeskLedger, R: Wait, K: Steps, T: Wait>(
     rt: &T,
     alloc: Global,

@@ -1,10 +1,10 @@
 //! Worker threads that serve sessions, those of a listener's connections among them, and the keeper that tells the core the time
-//! and has it write the markers it owes.
+//! and has it write pending markers.
 //!
-//! `serve_all` starts the workers, each of which takes one job after the other from a channel and serves it at a locked desk,
-//! and keeps the core's time on the calling thread until all of them have ended: a tick at each moment of a clock, and marks
-//! after it. `serve_all_stepped` does the same with a keeper that is told each of its steps. What a session reads is held to the
-//! times that its peer has (`deadlines`).
+//! `serve_all` starts the workers, each of which takes one job after the other from a channel and serves it at a locked desk, and
+//! keeps the core's time on the calling thread until all of them have ended: a tick at each moment of a clock, and marks after
+//! it. `serve_all_stepped` does the same with a keeper whose `Steps` the caller gives. What a session reads is held to the times
+//! that its peer has (`deadlines`).
 //!
 //! When all sessions have ended, `settle` compares their receipts with the trail, value by value and place by place.
 #![tactic(auto)]

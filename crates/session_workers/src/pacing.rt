@@ -8,24 +8,24 @@ use std::time::{Duration, Instant};
 use std::{thread, time};
 use wire_types::Text;
 
-/// For how long at most a user that waits isn't asked for, in nanoseconds.
+/// How long a user that waits sleeps at most, before it is looked whether further requests are read; in nanoseconds.
 const NAP: u64 = 100_000_000;
 
-/// Has users wait that ask faster than they may, in all their sessions together, as long as further requests are read.
+/// Makes users wait that ask faster than they may, in all their sessions together, as long as further requests are read.
 #[derive(Drop)]
 pub(crate) struct Pacing<'r, R> {
     rt: &'r R,
     alloc: Global,
     pace: Mutex<Pace>,
-    /// From when on moments are counted. None where that can't be told, or where users may ask as fast as they like: then nobody
-    /// waits.
+    /// From when on moments are counted. `None` where the clock couldn't be read, or where users may ask as fast as they like:
+    /// then nobody waits.
     start: Option<Instant>,
-    /// Is closed once no further request is read.
+    /// Is set once no further request is read.
     reading: &'r ShutdownFlag,
 }
 
 impl<'r, R: Wait + time::Clock> Pacing<'r, R> {
-    /// No user has asked yet.
+    /// A pacing by this rate, by which no user has asked yet.
     pub(crate) fn new(
         rt: &'r R,
         alloc: Global,
@@ -53,7 +53,7 @@ impl<'r, R: Wait + time::Clock> Pacing<'r, R> {
         u64::try_from(passed.as_nanos()).ok()
     }
 
-    /// Sleeps for so many nanoseconds, or until no further request is read, which is looked at ten times a second.
+    /// Sleeps for so many nanoseconds, or until no further request is read, which is looked at every 100 milliseconds.
     fn sleep(&self, time: u64) {
         for _ in 0..time / NAP {
             if self.reading.is_closed() {
@@ -65,7 +65,7 @@ impl<'r, R: Wait + time::Clock> Pacing<'r, R> {
     }
 
     /// Charges a user for a request of so many bytes, and returns once it may ask again, or no further request is read. It
-    /// returns at once where an allocation fails for a user that is new.
+    /// returns at once, and charges nothing, where there is no rate, the clock can't be read, or an allocation fails.
     pub(crate) fn pause(&self, user: &Text, bytes: u64) {
         let Some(now) = self.now() else {
             return;

@@ -8,8 +8,8 @@ use std::time;
 use std::time::Duration;
 use wire_types::{Bytes, ErrorCode, Text};
 
-/// For how long the answer to a Fetch may be held back that brings no record and no error: its `max_wait_ms`. `None` for any
-/// other answer.
+/// For how long the answer to a Fetch that brings no record and no error may be held back: the request's `max_wait_ms`. `None`
+/// for any other answer, or where `max_wait_ms` is negative.
 fn wait_of(receipt: &Receipt) -> Option<Duration> {
     let Event::Ask {
         request: Request::Fetch(request),
@@ -33,8 +33,9 @@ fn wait_of(receipt: &Receipt) -> Option<Duration> {
         .map(Duration::from_millis)
 }
 
-/// A gate that holds back answers without records, for a most of time, and leaves all else to another gate. A client that is
-/// answered at once that there is nothing asks again at once (Kafka protocol guide, "Fetch API (Key: 1)": `max_wait_ms`).
+/// A gate that holds back the answer to a Fetch without a record and without an error, up to `most`, and leaves all else to
+/// another gate. A client that is answered at once that there is nothing asks again at once (Kafka protocol guide, "Fetch API
+/// (Key: 1)": `max_wait_ms`).
 #[derive(Drop)]
 pub(crate) struct Patient<'x, R, G> {
     rt: &'x R,
@@ -43,7 +44,7 @@ pub(crate) struct Patient<'x, R, G> {
 }
 
 impl<'x, R, G> Patient<'x, R, G> {
-    /// A gate that holds such answers back for so long at most; with `None` it holds none back.
+    /// A gate that holds such answers back for `most` at most; with `None` it holds none back.
     pub(crate) fn new(rt: &'x R, gate: &'x G, most: Option<Duration>) -> Patient<'x, R, G> {
         Patient { rt, gate, most }
     }
@@ -55,8 +56,9 @@ impl<'x, R: time::Clock, G: Gate> Gate for Patient<'x, R, G> {
         self.gate.before(session, frame);
     }
 
-    /// Tells the other gate of the receipt. Then it waits where the answer is a Fetch's without a record: as long as its
-    /// `max_wait_ms` says, up to the most.
+    /// Tells the other gate of the receipt. Where the answer is a Fetch's without a record and without an error, it then sleeps
+    /// as long as the request's `max_wait_ms` says, up to `most`. The log isn't looked at again: records that are produced
+    /// meanwhile neither end the wait nor come into the answer, and `min_bytes` has no effect.
     fn answered(&self, receipt: &Receipt) {
         self.gate.answered(receipt);
         if let (Some(most), Some(wait)) = (self.most, wait_of(receipt)) {

@@ -8,7 +8,7 @@ use session_pool::SessionEnd;
 use std::alloc::{AllocError, Global};
 use std::sync::ledger::Ledger;
 
-/// A seat with which no call was answered.
+/// A seat by which no event was answered, so that another session may have it.
 #[derive(Drop)]
 pub(crate) struct Unused<L: Ledger> {
     pub(crate) seat: Seat<L>,
@@ -27,11 +27,11 @@ pub(crate) struct Done<L: Ledger> {
 pub struct Ended<L: Ledger> {
     /// The ends of those sessions that have a receipt, and after them the keeper's.
     pub ends: Vec<SessionEnd<Seat<L>>>,
-    /// So many sessions more ended, without a receipt.
+    /// How many sessions more ended, without a receipt.
     pub others: u64,
 }
 
-/// What is left of sessions: the ends of those with a receipt, and how many others ended.
+/// What is left of sessions: the ends of those with a receipt (`kept`), and how many others ended.
 #[derive(Drop)]
 pub(crate) struct Sessions<L: Ledger> {
     pub(crate) kept: Vec<SessionEnd<Seat<L>>>,
@@ -41,7 +41,7 @@ pub(crate) struct Sessions<L: Ledger> {
 }
 
 impl<L: Ledger> Sessions<L> {
-    /// No session has ended yet.
+    /// No session yet: no end is kept, and no other session is counted.
     pub(crate) fn new(alloc: Global) -> Sessions<L> {
         Sessions {
             kept: Vec::new(alloc),
@@ -50,7 +50,7 @@ impl<L: Ledger> Sessions<L> {
     }
 
     /// Counts one ended session more. Its end is kept where it has a receipt; else its seat comes back, for the next session. The
-    /// error is an allocation failure, or that 64 bits don't count the sessions.
+    /// error is an allocation failure, or that 64 bits don't count the sessions; what was kept is then given up.
     pub(crate) fn add(self, done: Done<L>) -> Result<(Sessions<L>, Option<Unused<L>>), AllocError>
         ensures added { IfOk result
             (λ r. AddsSession self.kept.items r.0.kept.items self.others r.0.others done.end) }
@@ -67,7 +67,8 @@ impl<L: Ledger> Sessions<L> {
         Ok((Sessions { kept, others }, None))
     }
 
-    /// These sessions, and then those of another worker. The error is an allocation failure, or that 64 bits don't count them.
+    /// These sessions, and then those of another worker. The error is an allocation failure, or that 64 bits don't count them;
+    /// both are then given up.
     pub(crate) fn join(self, more: Sessions<L>) -> Result<Sessions<L>, AllocError>
         ensures kept { IfOk result (λ all. all.kept.items ≡ self.kept.items ++ more.kept.items) }
         ensures others { IfOk result (λ all. all.others ≡ self.others + more.others) }

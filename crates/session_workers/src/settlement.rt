@@ -11,7 +11,7 @@ use std::alloc::Global;
 use std::sync::ledger::Ledger;
 use thiserror::Error;
 
-/// Why receipts and trail don't fit.
+/// Why receipts and trail don't agree.
 #[derive(Clone, Copy, Debug, PartialEq, Eq, Error)]
 pub enum SettleFault {
     /// A receipt whose event or reply isn't the trail's at its place.
@@ -23,7 +23,7 @@ pub enum SettleFault {
     /// A place that no receipt holds.
     #[error("no receipt holds a place of the trail")]
     Missing,
-    /// Memory was refused for a mark at each place.
+    /// An allocation failed for the marks at the trail's places.
     #[error("there is not enough memory for a mark at each place of the trail")]
     NoMemory,
 }
@@ -77,7 +77,8 @@ fn all_told(trail: &Trail, receipts: &[Receipt]) -> bool
     true
 }
 
-/// Ticks off the places of these receipts; false where a place was ticked off before, so that two receipts hold it.
+/// Marks the places of these receipts in `seen`; false where a place was marked before, so that two receipts hold it, and those
+/// after it aren't marked then. Each place must be one of `seen`.
 fn tick_off(seen: &mut [bool], receipts: &[Receipt]) -> bool
     requires { All (λ r. r.place < length seen.old) receipts.now }
     ensures { MatchBool result
@@ -108,7 +109,8 @@ fn are_told(trail: &Trail, ends: &[Vec<Receipt>]) -> bool
     true
 }
 
-/// Ticks off the places of the receipts of all ends; false where two receipts hold one place.
+/// Marks the places of the receipts of all ends in `seen`; false where two receipts hold one place. Each place must be one of
+/// `seen`.
 fn tick_ends(seen: &mut [bool], ends: &[Vec<Receipt>]) -> bool
     requires { All (λ v. All (λ r. r.place < length seen.old) v.items) ends.now }
     ensures { MatchBool result
@@ -124,7 +126,7 @@ fn tick_ends(seen: &mut [bool], ends: &[Vec<Receipt>]) -> bool
     true
 }
 
-/// Whether each place was ticked off.
+/// Whether each place was marked.
 fn all_ticked(seen: &[bool]) -> bool
     ensures { MatchBool result
         ((place : ℕ) → place < length seen.now → tick_count seen.now place ≡ 1)
@@ -138,8 +140,8 @@ fn all_ticked(seen: &[bool]) -> bool
     true
 }
 
-/// Settles the books: compares the receipts of all ends with the trail, first each with the entry at its place, then how often
-/// each place is held. Gives how many events and refusals there are, or the first fault.
+/// Compares the receipts of all ends with the trail, first each with the entry at its place, then how often each place is held.
+/// Gives how many events and refusals the trail has, or the first fault: `Stray`, `NoMemory`, `Twice`, and at last `Missing`.
 pub fn settle<L: Ledger>(
     alloc: Global,
     quiet: &Quiet<L>,

@@ -1,4 +1,4 @@
-//! A session's times: who is told that its user is known, and that its peer took too long, and who waits.
+//! A session's gate: it notes that the user is known, makes the session wait, and says that the peer took too long.
 
 use crate::pacing::Pacing;
 use deadlines::{Limit, Notes, Times};
@@ -12,7 +12,7 @@ use std::time;
 use std::time::Duration;
 use wire_types::{Bytes, Text};
 
-/// The gate of one session: notes that its user is known and who that is, has it wait after a frame where that user asks faster
+/// The gate of one session: notes that its user is known and who that is, makes it wait after a frame where that user asks faster
 /// than it may, and leaves all else to the gate of all sessions.
 #[derive(Drop)]
 pub(crate) struct Noting<'x, 'r, G, R> {
@@ -23,7 +23,7 @@ pub(crate) struct Noting<'x, 'r, G, R> {
 }
 
 impl<'x, 'r, G, R> Noting<'x, 'r, G, R> {
-    /// A session's gate, whose user isn't known yet.
+    /// The gate of a session whose user isn't known yet.
     pub(crate) fn new(
         gate: &'x G,
         notes: &'x Notes,
@@ -37,14 +37,15 @@ impl<'x, 'r, G, R> Noting<'x, 'r, G, R> {
         }
     }
 
-    /// The principal that has logged in; `None` before that.
+    /// The principal that has logged in; `None` before that, and where its name couldn't be copied.
     pub(crate) fn who(&self) -> Option<&Text> {
         self.who.get()
     }
 }
 
 impl<'x, 'r, G: Gate, R> Noting<'x, 'r, G, R> {
-    /// Tells the gate that the session has ended, and why, in words where more is known of it.
+    /// Tells the gate of all sessions that the session has ended, and why; in words, by `ended_as`, where more is known of the
+    /// reason than `end.why`.
     pub(crate) fn tell_end<S>(
         &self,
         alloc: Global,
@@ -74,7 +75,8 @@ impl<'x, 'r, G: Gate, R: Wait + time::Clock> Gate for Noting<'x, 'r, G, R> {
         self.gate.answered(receipt);
     }
 
-    /// Notes that the user is known, and who it is, and tells the gate of all sessions.
+    /// Notes that the user is known, and who it is, and tells the gate of all sessions. Where an allocation fails for the name,
+    /// the session is never made to wait.
     fn logged_in(&self, session: u64, who: &Text) {
         self.notes.log_in();
         if let Ok(who) = who.clone() {
@@ -83,7 +85,8 @@ impl<'x, 'r, G: Gate, R: Wait + time::Clock> Gate for Noting<'x, 'r, G, R> {
         self.gate.logged_in(session, who);
     }
 
-    /// Tells the gate of all sessions. Then the session waits, where its user asks faster than it may.
+    /// Tells the gate of all sessions. Then, where a user is known, charges it for one request, of as many bytes as were read
+    /// since the last call, also where no frame came; and waits where it asks faster than it may.
     fn after(&self, session: u64, frame: u64) {
         self.gate.after(session, frame);
         let bytes = self.notes.take_read();
@@ -113,14 +116,15 @@ impl<'x, 'r, G: Gate, R: Wait + time::Clock> Gate for Noting<'x, 'r, G, R> {
     }
 }
 
-/// Says what took longer than so many seconds; `None` after an allocation failure.
+/// Says what took longer than this time, in whole seconds; `None` after an allocation failure.
 fn words_of(alloc: Global, what: &str, time: Duration) -> Option<String> {
     let seconds = time.as_secs();
     let unit = if seconds == 1 { "second" } else { "seconds" };
     format!(in alloc; "{what} took longer than {seconds} {unit}").ok()
 }
 
-/// Says which of its times a peer has overrun, its login's or a frame's; `None` for the idle time, or where none was over.
+/// Says which of its times a peer has overrun, its login's or a frame's; `None` for the idle time, where none was over, or after
+/// an allocation failure.
 fn overdue(alloc: Global, times: Times, over: Option<Limit>) -> Option<String> {
     match over? {
         Limit::Idle => None,
@@ -132,7 +136,7 @@ fn overdue(alloc: Global, times: Times, over: Option<Limit>) -> Option<String> {
 /// The first byte of a TLS record that holds a handshake, and the first of its version (RFC 8446, section 5.1).
 const TLS_HANDSHAKE: [u8; 2] = [22, 3];
 
-/// Says that a session's first bytes look like TLS or HTTP; `None` where they don't.
+/// Says that a session's first four bytes look like TLS or HTTP; `None` where they don't.
 fn foreign(front: [u8; 4]) -> Option<&'static str> {
     if front.starts_with(&TLS_HANDSHAKE) {
         return Some(
@@ -148,8 +152,9 @@ fn foreign(front: [u8; 4]) -> Option<&'static str> {
     }
 }
 
-/// More of why a session has ended than its end tells, in words: which of its times the peer has overrun, where a read or a write
-/// failed for that; or what its first bytes look like, where they are no frame's size. `None` where no more is known.
+/// More of why a session has ended than `why` tells, in words: which of its times the peer has overrun, where a read or a write
+/// failed; or what its first bytes look like, where a frame's size was wrong. `None` where no more is known, or after an
+/// allocation failure.
 fn words_of_end(alloc: Global, why: EndReason, times: Times, notes: &Notes) -> Option<String> {
     match why {
         EndReason::ReadFault | EndReason::WriteFault => overdue(alloc, times, notes.over()),

@@ -24,13 +24,13 @@ use std::thread::{JoinHandle, Threads};
 use std::{thread, time};
 use thiserror::Error;
 
-/// Why the ends of all sessions are given up.
+/// Why the ends of all sessions are given up, or none was served.
 #[derive(Clone, Copy, Debug, PartialEq, Eq, Error)]
 pub enum PoolFault {
-    /// Memory was refused for a worker's handle or an end, or more sessions ended than 64 bits count.
+    /// An allocation failed for the workers' queue, a worker's handle or an end, or more sessions ended than 64 bits count.
     #[error("there is not enough memory for the ends of the sessions")]
     NoMemory,
-    /// No worker could be started.
+    /// No worker could be started, or no thread that accepts connections.
     #[error("no worker thread could be started")]
     NoThread,
     /// No seat was left for the keeper.
@@ -60,10 +60,10 @@ pub struct SessionOptions {
     pub rate: Rate,
 }
 
-/// What serves jobs, and hands back what is left of its sessions.
+/// The handle of a thread that serves jobs and gives what is left of its sessions.
 type Worker<L> = JoinHandle<Result<Sessions<L>, AllocError>>;
 
-/// The seat that came back, or else a new one from the desk; `None` where no seat is left.
+/// The seat that came back from the last session, or else a new one from the desk; `None` where no seat is left.
 fn seat_of<L: DeskLedger, R: Wait>(
     desk: &LockedDesk<L, R>,
     back: Option<Unused<L>>,
@@ -75,7 +75,8 @@ fn seat_of<L: DeskLedger, R: Wait>(
 }
 
 /// What one worker does: serves jobs until the channel is closed, and gives what is left of their sessions. The seat of a session
-/// that ended without a receipt serves the next one. Where no seat is left, a job is dropped, and the doorman is told.
+/// that ended without a receipt serves the next one. Where no seat is left, a job is dropped, and the doorman is told. After an
+/// allocation failure it serves no more, and gives up what was left.
 fn work<
     L: DeskLedger,
     R: Wait,
@@ -111,7 +112,8 @@ fn work<
     Ok(sessions)
 }
 
-/// Waits for all workers to end, and gives what is left of their sessions.
+/// Waits for all workers to end, and gives what is left of their sessions. The error is that of a worker, or an allocation
+/// failure.
 fn join_all<L: DeskLedger, T: Threads>(
     rt: &T,
     alloc: Global,
@@ -124,7 +126,8 @@ fn join_all<L: DeskLedger, T: Threads>(
     Ok(sessions)
 }
 
-/// Keeps the core's time until all workers have ended, and gives the ends of their sessions, and after these the keeper's.
+/// Does the keeper's steps on the calling thread, then waits for all workers to end, and gives the ends of their sessions, and
+/// after these the keeper's. The error is `NoMemory`.
 #[tactic(auto, using(crate::proofs::Keeping::are_ends))]
 fn keep_and_join<L: DeskLedger, R: Wait, K: Steps + Drop, T: Threads + Wait>(
     rt: &T,
@@ -149,7 +152,8 @@ fn keep_and_join<L: DeskLedger, R: Wait, K: Steps + Drop, T: Threads + Wait>(
     }
 }
 
-/// Does what `serve_all_stepped` does, with all that the threads share borrowed for one lifetime.
+/// As `serve_all_stepped`, with all that the threads share borrowed for one lifetime. `running` counts the workers that haven't
+/// ended.
 fn serve_lent<
     'x,
     'r,
@@ -216,13 +220,13 @@ pub struct ServerContext<'x, L: DeskLedger, R: Wait, G, D> {
     pub desk: &'x LockedDesk<L, R>,
     pub gate: &'x G,
     pub doorman: &'x D,
-    /// Is closed once no further request is read. Who has a user wait that asks too fast looks now and then whether it is.
+    /// Is set once no further request is read. A user that is made to wait goes on then.
     pub reading: &'x ShutdownFlag,
 }
 
-/// Serves the jobs of the channel by so many worker threads, until the channel is closed and all are served. Meanwhile the keeper
-/// does the steps that `steps` tells it, on the calling thread. Gives the ends, the keeper's last; after a fault they are given
-/// up.
+/// Serves the jobs of the channel by so many worker threads, until the channel is closed and all are served; by fewer, where no
+/// more can be started. Meanwhile the keeper does the steps that `steps` gives it, on the calling thread. Gives the ends, the
+/// keeper's last; after a fault they are given up: `NoMemory`, `NoThread` or `NoSeat`.
 pub fn serve_all_stepped<
     L: DeskLedger + Send + Sync,
     R: Wait + Sync,
@@ -257,8 +261,8 @@ pub fn serve_all_stepped<
     serve_lent(&context, &jobs, &running, workers, steps)
 }
 
-/// Serves the jobs of the channel as `serve_all_stepped` does, while the keeper goes by a clock: it tells the core each of its
-/// moments, and after each has markers written as long as some are pending.
+/// As `serve_all_stepped`, but the keeper goes by a clock: it tells the core each of its moments, and after each has markers
+/// written as long as some are pending. Versions are listed as served, users may ask at any rate, and no doorman is told.
 pub fn serve_all<
     L: DeskLedger + Send + Sync,
     R: Wait + Sync,

@@ -7,7 +7,7 @@ use crate::fault::{OpenFault, first_fault};
 use crate::settings::Settings;
 use std::marker::Model;
 
-/// Settings without a fault. Seen as the settings.
+/// Settings in which `first_fault` finds nothing. Contracts see them as the settings.
 #[derive(Debug)]
 pub struct CheckedSettings {
     settings: Settings,
@@ -34,7 +34,8 @@ impl Drop for CheckedSettings {
 }
 
 impl CheckedSettings {
-    /// Checks settings, and gives their first fault if they have one. It allocates nothing.
+    /// Checks settings, and returns their first fault, in the order of `OpenFault`, if they have one; then they are dropped. It
+    /// allocates nothing.
     pub fn of(settings: Settings) -> Result<CheckedSettings, OpenFault>
         ensures ok { IfOk result (λ checked. checked ≡ settings) }
         ensures faultless { OnOk result (first_fault settings ≡ None) }

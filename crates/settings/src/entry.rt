@@ -1,19 +1,19 @@
-//! How a sentence tells which entries of a list it speaks of.
+//! How a sentence names the entries of a list in the settings.
 
 use std::alloc::{AllocError, Global};
 use std::fmt;
 use wire_types::Text;
 
-/// An entry of a list. It is written with its number from 1.
+/// An entry of a list of the settings. It is displayed with its number, counted from 1.
 #[derive(Clone, Copy, Debug)]
 pub struct Entry<'a> {
-    /// The key of the list.
+    /// The key of the list, such as `topic`.
     pub list: &'a str,
-    /// How many entries stand before it.
+    /// The index in the list, counted from 0.
     pub place: usize,
 }
 
-/// The number by which a sentence names the entry at this place, counted from 1.
+/// The number, counted from 1, of the entry at this index, counted from 0.
 fn number_of(place: usize) -> u64 {
     (place as u64).saturating_add(1)
 }
@@ -27,7 +27,8 @@ impl fmt::Display for Entry<'_> {
     }
 }
 
-/// The sentence that the entries of a list at these two places, counted from 0, have the same name.
+/// The sentence that two entries of `list`, at these places counted from 0, have the same name. The name is escaped, so that the
+/// sentence is one line. An error is an allocation failure.
 pub fn name_twice(
     alloc: Global,
     list: &str,

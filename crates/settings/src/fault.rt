@@ -19,25 +19,25 @@ pub enum OpenFault {
     /// A number, a length or a count is out of range.
     #[error("a number, a length or a count is out of its range")]
     Range,
-    /// A topic has a name that none may have.
+    /// A topic has a name that Kafka doesn't allow.
     #[error("a topic has a name that none may have")]
     TopicName,
-    /// A topic stands twice.
+    /// Two topics have the same name.
     #[error("a topic stands twice")]
     Twice,
-    /// A binding that may not be created: an empty name or host, another name of the cluster, or a
-    /// principal that is no user.
+    /// A binding may not be created: it has an empty name or host, a name of the cluster other than `kafka-cluster`, or a
+    /// principal that isn't `User:` and at least one character.
     #[error("a binding has no name or host, another name of the cluster, or a principal that is no user")]
     Acl,
     /// A super user that isn't `User:` and at least one character.
     #[error("a super user is not `User:` and at least one character")]
     Super,
-    /// Memory was refused, which may come in place of any.
+    /// An allocation failure, which may come instead of any other. `first_fault` never returns it.
     #[error("there is not enough memory")]
     NoMemory,
 }
 
-/// The least and the greatest that a number may be.
+/// The least and the greatest value that a number of the settings may have, both allowed.
 #[derive(Clone, Copy, Debug, PartialEq, Eq)]
 pub(crate) struct Limits {
     pub(crate) least: u32,
@@ -99,7 +99,7 @@ pub(crate) fn is_host_within(host: &Text) -> bool
     host.len() >= 1 && host.len() <= 255
 }
 
-/// Whether each topic has 1 to 1,000 partitions.
+/// Whether each topic has 1 to 1,000 partitions. The number of topics isn't checked here.
 fn are_partitions_within(topics: &[TopicSetting]) -> bool
     ensures { result ≡ list_all is_topic_within topics.now }
 {
@@ -138,21 +138,22 @@ pub(crate) fn is_binding_within(binding: &Binding) -> bool
         && is_text_within(&binding.host)
 }
 
-/// Whether the texts of each binding have at most 1,000 bytes.
+/// Whether the name, principal and host of each binding have at most 1,000 bytes each. The number of bindings isn't checked here.
 fn are_all_within(acls: &[Binding]) -> bool
     ensures { result ≡ list_all is_binding_within acls.now }
 {
     acls.iter().all(|binding| is_binding_within(binding))
 }
 
-/// Whether there are at most 100,000 bindings, with texts of at most 1,000 bytes.
+/// Whether there are at most 100,000 bindings, each with a name, a principal and a host of at most 1,000 bytes.
 fn are_bindings_within(acls: &[Binding]) -> bool
     ensures { result ≡ are_bindings_within acls.now }
 {
     acls.len() <= 100_000 && are_all_within(acls)
 }
 
-/// Whether each number, length and count of the settings is in its range; if not, the fault is `Range`.
+/// Whether each number, length and count of the settings is in its range; if not, the fault is `Range`. Lengths are those of the
+/// host, of the bindings' texts and of super users, whose number isn't limited; topic names are left to `TopicName`.
 fn is_in_range(settings: &Settings) -> bool
     ensures { result ≡ is_in_range settings.now }
 {
@@ -181,8 +182,8 @@ fn is_among(name: &Text, topics: &[TopicSetting]) -> bool
         .any(|topic| name.as_str() == topic.name.as_str())
 }
 
-/// Whether no topic stands twice; if one does, the fault is `Twice`. It compares each with each, of which there are at most
-/// 1,000.
+/// Whether no two topics have the same name; if two do, the fault is `Twice`. It compares each with each, which is quick for at
+/// most 1,000.
 fn are_distinct(topics: &[TopicSetting]) -> bool
     ensures { result ≡ are_distinct topics.now }
 {
@@ -212,8 +213,8 @@ fn are_principals(supers: &[Text]) -> bool
         .all(|principal| is_principal(principal.as_str()))
 }
 
-/// The first fault of the settings in the order of `OpenFault`; `None` if there is none. Never `NoMemory`, since it
-/// allocates nothing.
+/// The first fault of the settings in the order of `OpenFault`; None if there is none. It is never `NoMemory`, since it allocates
+/// nothing.
 pub fn first_fault(settings: &Settings) -> Option<OpenFault>
     ensures { result ≡ first_fault settings.now }
 {

@@ -1,5 +1,5 @@
-//! Where settings have a fault, in words for a reader: the place, and then what is wrong there. No contract speaks of
-//! them. A name is told with its escapes, so that each sentence is one line.
+//! Sentences for an operator about the first fault of settings: the place, and then what is wrong there. No contract speaks of
+//! them. A name is written with its escapes, so that each sentence is one line. An error of a function is an allocation failure.
 
 use crate::entry::{Entry, name_twice};
 use crate::fault::{
@@ -12,7 +12,8 @@ use acl_binding::{Binding, CLUSTER_NAME, Kind, is_principal};
 use std::alloc::{AllocError, Global};
 use wire_types::Text;
 
-/// The sentence about the first number of the settings that is out of its limits, `None` if there is none.
+/// The sentence about the first number of the broker itself (node id, port, limits) that is out of its range; None if there is
+/// none.
 fn number_out_of_range(alloc: Global, settings: &Settings) -> Result<Option<String>, AllocError> {
     for (key, number, limits) in [
         ("node_id", settings.node_id, NODE_ID),
@@ -66,7 +67,8 @@ fn topics_out_of_range(
     Ok(None)
 }
 
-/// What is too long in this binding: its name, its principal or its host. `None` if nothing is.
+/// What is wrong with the first text of this binding that is too long (name, principal or host), without the binding's place;
+/// None if none is.
 fn long_text(alloc: Global, binding: &Binding) -> Result<Option<String>, AllocError> {
     for (key, text) in [
         ("name", &binding.name),
@@ -131,7 +133,7 @@ fn out_of_range(alloc: Global, settings: &Settings) -> Result<Option<String>, Al
     supers_out_of_range(alloc, settings.supers.as_slice())
 }
 
-/// The sentence about the first topic whose name none may have, `None` if there is none.
+/// The sentence about the first topic whose name Kafka doesn't allow; None if there is none.
 fn no_topic_name(alloc: Global, topics: &[TopicSetting]) -> Result<Option<String>, AllocError> {
     for (place, topic) in topics.iter().enumerate() {
         let name = topic.name.as_str();
@@ -164,7 +166,7 @@ fn repeated(topics: &[TopicSetting]) -> Option<(&Text, usize, usize)> {
     None
 }
 
-/// The sentence about a topic that stands twice, `None` if none does.
+/// The sentence about the first two topics of the same name; None if there are none.
 fn topic_twice(alloc: Global, topics: &[TopicSetting]) -> Result<Option<String>, AllocError> {
     match repeated(topics) {
         Some((name, place, again)) => {
@@ -174,7 +176,7 @@ fn topic_twice(alloc: Global, topics: &[TopicSetting]) -> Result<Option<String>,
     }
 }
 
-/// Why this binding, which may not be created, may not.
+/// Why this binding, for which `is_creatable` has to be false, may not be created, without its place.
 fn why_not_creatable(alloc: Global, binding: &Binding) -> Result<String, AllocError> {
     let name = binding.name.as_str();
     if binding.kind == Kind::Cluster && name != CLUSTER_NAME {
@@ -224,8 +226,8 @@ fn no_super(alloc: Global, supers: &[Text]) -> Result<Option<String>, AllocError
     Ok(None)
 }
 
-/// A sentence for an operator: where the settings have this fault, and what is wrong there. If no such place is found, it
-/// says what the fault is in general.
+/// A sentence for an operator: where the settings first have this fault, and what is wrong there. If they have it nowhere, or it
+/// is `NoMemory`, the sentence says what the fault is in general. An error is an allocation failure.
 pub fn explain(alloc: Global, settings: &Settings, fault: OpenFault) -> Result<String, AllocError> {
     let found = match fault {
         OpenFault::Range => out_of_range(alloc, settings)?,

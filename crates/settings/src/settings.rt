@@ -1,4 +1,4 @@
-//! Settings, as they were written down: `first_fault` tests them.
+//! Settings, as they were written down: unchecked, until `first_fault` tests them. The ranges here are those that it allows.
 
 use acl_binding::Binding;
 use wire_types::{Items, Text};
@@ -11,7 +11,7 @@ pub struct TopicSetting {
     pub partitions: i64,
 }
 
-/// What the broker is set up with. Numbers are those of a settings text, so any of 64 bits.
+/// What the broker is set up with. Numbers are as a settings text holds them, so any of 64 bits.
 #[derive(Debug, Drop)]
 pub struct Settings {
     /// The id of the one node, 0 to 2,147,483,647.
@@ -20,15 +20,16 @@ pub struct Settings {
     pub host: Text,
     /// The port that clients reach it by, 1 to 65,535.
     pub port: i64,
-    /// The principals to whom everything is allowed.
+    /// The super users: principals that are allowed everything. Each is `User:` and at least one character, of at most 1,000
+    /// bytes.
     pub supers: Items<Text>,
-    /// How many events the trail can take, 1 to 1,073,741,824.
+    /// How many events the audit trail can take, 1 to 1,073,741,824.
     pub trail_limit: i64,
     /// The greatest size of a record batch in bytes, 61 to 104,857,600.
     pub max_batch: i64,
     /// The greatest timeout of a transaction in milliseconds, 1 to 2,147,483,647.
     pub max_txn_timeout: i64,
-    /// At most 1,000, no name twice.
+    /// At most 1,000 topics, no name twice.
     pub topics: Items<TopicSetting>,
     /// The bindings that the book begins with, at most 100,000. An equal one adds nothing.
     pub acls: Items<Binding>,

@@ -39,7 +39,7 @@ pub struct Document {
     pub settings: CheckedSettings,
 }
 
-/// What a settings text says, before its users and settings are checked. Seen as a document.
+/// What a settings text says, before its users and settings are checked.
 #[derive(Drop)]
 pub(crate) struct UncheckedDocument {
     pub(crate) users: Items<User>,
@@ -54,7 +54,8 @@ impl Model for UncheckedDocument {
     ghost view = { λ u. record { users = u.users; settings = u.settings } };
 }
 
-/// Checks the users and the settings of a document. The error is the first fault of the users, or else of the settings.
+/// Checks the users and the settings of a document. The error is the first fault of the users, or else of the settings; or
+/// `NoMemory`.
 fn settle(alloc: Global, document: UncheckedDocument) -> Result<Document, SettingsFault>
     ensures { Settles (checked_document document) result }
 {
@@ -69,7 +70,8 @@ fn settle(alloc: Global, document: UncheckedDocument) -> Result<Document, Settin
     }
 }
 
-/// Reads and checks the document that a TOML table holds. The error is its first fault: of its keys, its users or its settings.
+/// Reads and checks the document that a TOML table holds. The error is its first fault: of its keys (`Key`), its users or its
+/// settings; or `NoMemory`.
 fn document_of_table(alloc: Global, table: &Table) -> Result<Document, SettingsFault>
     ensures { Settles (keyed_document (document_of (table_view table.now))) result }
 {
@@ -80,7 +82,8 @@ fn document_of_table(alloc: Global, table: &Table) -> Result<Document, SettingsF
     }
 }
 
-/// Reads and checks the document that a text holds. The error is `Toml` where the text is no TOML, or else the first fault.
+/// Reads and checks the document that a text holds. The error is `Toml` if the text is no TOML, or else the first fault; or
+/// `NoMemory`.
 fn document_of_str(alloc: Global, text: &str) -> Result<Document, SettingsFault>
     ensures { Settles (parsed_document (parse_document text.now)) result }
 {
@@ -96,8 +99,8 @@ fn document_of_str(alloc: Global, text: &str) -> Result<Document, SettingsFault>
     }
 }
 
-/// Reads and checks a settings text: gives its users and settings, or its first fault. The fault is `Toml` where the text isn't
-/// UTF-8.
+/// Reads and checks a settings text. Returns its users and settings, or its first fault, which is `Toml` if the text isn't
+/// UTF-8 or no TOML. An allocation failure gives `NoMemory` in place of any.
 pub fn document_of_text(alloc: Global, text: &[u8]) -> Result<Document, SettingsFault>
     ensures { Settles (document_of_text text.now) result }
 {

@@ -1,5 +1,5 @@
-//! What settings without a fault are unlikely to mean, in words for whoever serves by them. No contract speaks of these
-//! sentences. A name is told with its escapes, so that each is one line.
+//! Warnings: what settings without a fault probably don't mean, in sentences for whoever runs the broker. No contract speaks of
+//! these sentences. A name appears with its escapes, so that each sentence is one line.
 
 use crate::document::{Document, User};
 use acl_binding::{Binding, Kind, Operation};
@@ -24,7 +24,7 @@ fn is_meant(kind: Kind, operation: Operation) -> bool {
     }
 }
 
-/// Whether a principal is that of some user, or `User:*`, which stands for everybody.
+/// Whether a principal is `User:` with the name of some user, or `User:*`, which stands for everybody.
 fn is_known(users: &[User], principal: &str) -> bool {
     principal == EVERYBODY
         || users.iter().any(|user| principal.strip_prefix("User:") == Some(user.name.as_str()))
@@ -59,8 +59,9 @@ fn meaningless(alloc: Global, acls: &[Binding]) -> Result<Option<String>, AllocE
     Ok(None)
 }
 
-/// What settings without a fault are unlikely to mean, at most a sentence for each of these: nobody could log in, an ACL binding
-/// has a principal that is no user, and one has an operation that its kind of resource doesn't have.
+/// Returns at most one sentence for each of these: there is no user, so nobody can log in; an ACL binding has a principal that
+/// is no user; an ACL binding has an operation that its kind of resource doesn't have. Empty if all is well. An `AllocError` is
+/// an allocation failure.
 pub fn warnings(alloc: Global, document: &Document) -> Result<Vec<String>, AllocError> {
     let mut sentences = Vec::new(alloc);
     if document.users.as_slice().is_empty() {

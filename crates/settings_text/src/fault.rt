@@ -21,13 +21,13 @@ pub enum SettingsFault {
     /// A number, a length or a count is out of range.
     #[error("{}", OpenFault::Range)]
     Range,
-    /// A topic has a name that none may have.
+    /// A topic has a name that Kafka doesn't allow.
     #[error("{}", OpenFault::TopicName)]
     TopicName,
     /// A topic stands twice.
     #[error("{}", OpenFault::Twice)]
     Twice,
-    /// A binding that may not be created.
+    /// An ACL binding is one that CreateAcls may not create.
     #[error("{}", OpenFault::Acl)]
     Acl,
     /// A super user that isn't `User:` and at least one character.
@@ -57,7 +57,7 @@ impl SettingsFault {
     }
 }
 
-/// The fault of a settings text that a fault of its settings is.
+/// The fault of a settings text by the fault of its settings, which has the same name.
 pub(crate) fn text_fault(fault: OpenFault) -> SettingsFault
     ensures { result ≡ text_fault fault }
 {

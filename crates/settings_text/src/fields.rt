@@ -1,4 +1,4 @@
-//! The fields of a table.
+//! The fields of a TOML table.
 
 ghost use Rattle.std.specs.Prelude.{◌≡◌, option_map, string_bytes};
 ghost use Rattle.toml.specs.Data.{get_member, as_str};
@@ -11,7 +11,7 @@ use std::alloc::{AllocError, Global};
 use toml::{Table, Value};
 use wire_types::Text;
 
-/// Why a table is no row, or could not be read.
+/// Why a TOML table isn't what the settings want, or could not be read.
 #[derive(Clone, Copy, Debug, PartialEq, Eq)]
 pub(crate) enum FieldFault {
     /// A key is missing, unknown or of another kind.
@@ -31,14 +31,14 @@ impl From<AllocError> for FieldFault {
     }
 }
 
-/// The value at a key; `None` where the key is missing.
+/// The value at a key; `None` if the key is missing.
 pub(crate) fn find<'a>(table: &'a Table, key: &str) -> Option<&'a Value>
     ensures { option_map (λ v. view v.now) result ≡ get_member key.now (table_view table.now) }
 {
     table.get(key)
 }
 
-/// The integer at a key. The fault is `Key` where the key is missing or its value is no integer.
+/// The integer at a key. The fault is `Key` if the key is missing or its value is no integer. Its range isn't checked here.
 pub(crate) fn number(table: &Table, key: &str) -> Result<i64, FieldFault>
     ensures { Reads (λ x. x) (number_field key.now (table_view table.now)) result }
 {
@@ -48,7 +48,8 @@ pub(crate) fn number(table: &Table, key: &str) -> Result<i64, FieldFault>
     }
 }
 
-/// The integer at a key, or the default where the key is missing. The fault is `Key` where its value is no integer.
+/// The integer at a key, or `default` if the key is missing. The fault is `Key` if its value is no integer. Its range isn't
+/// checked here.
 pub(crate) fn number_or_default(table: &Table, key: &str, default: i64) -> Result<i64, FieldFault>
     ensures { Reads (λ x. x) (number_or default key.now (table_view table.now)) result }
 {
@@ -58,7 +59,7 @@ pub(crate) fn number_or_default(table: &Table, key: &str, default: i64) -> Resul
     }
 }
 
-/// The text that a value is. The fault is `Key` where it is none, `NoMemory` after an allocation failure.
+/// The text that a value is. The fault is `Key` if it is none, `NoMemory` on an allocation failure.
 pub(crate) fn text_of(alloc: Global, value: &Value) -> Result<Text, FieldFault>
     ensures { Reads (λ x. x) (as_str (view value.now)) result }
 {
@@ -68,8 +69,7 @@ pub(crate) fn text_of(alloc: Global, value: &Value) -> Result<Text, FieldFault>
     }
 }
 
-/// The text at a key. The fault is `Key` where the key is missing or its value is no text, `NoMemory` after an allocation
-/// failure.
+/// The text at a key. The fault is `Key` if the key is missing or its value is no text, `NoMemory` on an allocation failure.
 pub(crate) fn text(alloc: Global, table: &Table, key: &str) -> Result<Text, FieldFault>
     ensures { Reads (λ x. x) (text_field key.now (table_view table.now)) result }
 {
@@ -79,7 +79,7 @@ pub(crate) fn text(alloc: Global, table: &Table, key: &str) -> Result<Text, Fiel
     }
 }
 
-/// The items of the list at a key, none where the key is missing. The fault is `Key` where its value is no list.
+/// The items of the list at a key; empty if the key is missing. The fault is `Key` if its value is no list.
 pub(crate) fn items<'a>(table: &'a Table, key: &str) -> Result<&'a [Value], FieldFault>
     ensures { Reads (λ vs. items_view vs.now) (items_field key.now (table_view table.now)) result }
 {
@@ -97,14 +97,14 @@ pub(crate) fn is_among(key: &str, known: &[&str]) -> bool
     known.iter().any(|other| key == *other)
 }
 
-/// Whether each key of a table is one of these.
+/// Whether each key of a table is one of `known`.
 fn are_among(table: &Table, known: &[&str]) -> bool
     ensures { result ≡ list_all (λ k. is_one_of known.now (string_bytes k)) (keys table.now) }
 {
     table.keys().all(|key| is_among(key.as_str(), known))
 }
 
-/// Whether a table has no other keys than these.
+/// Whether a table has no other keys than `known`. It may lack some of these.
 pub(crate) fn has_only(table: &Table, known: &[&str]) -> bool
     ensures { result ≡ has_only (texts known.now) (table_view table.now) }
 {

@@ -1,4 +1,4 @@
-//! The tables of a document, before their numbers and names are looked at.
+//! Reads the tables of a document. Numbers, names and bindings are checked later. An allocation failure gives `NoMemory`.
 
 ghost use Rattle.std.specs.Prelude.{codes};
 ghost use Rattle.toml.specs.Data.{as_str};
@@ -14,10 +14,13 @@ use std::alloc::Global;
 use toml::{Table, Value};
 use wire_types::{Items, Text};
 
+/// The keys of a `[[user]]`.
 pub(crate) const USER_KEYS: [&str; 2] = ["name", "password"];
 
+/// The keys of a `[[topic]]`.
 pub(crate) const TOPIC_KEYS: [&str; 2] = ["name", "partitions"];
 
+/// The keys of an `[[acl]]`.
 pub(crate) const ACL_KEYS: [&str; 7] = [
     "kind",
     "name",
@@ -28,6 +31,7 @@ pub(crate) const ACL_KEYS: [&str; 7] = [
     "permission",
 ];
 
+/// The keys of the document itself.
 pub(crate) const TOP_KEYS: [&str; 10] = [
     "node_id",
     "host",
@@ -41,7 +45,8 @@ pub(crate) const TOP_KEYS: [&str; 10] = [
     "acl",
 ];
 
-/// The table that a value is. The fault is `Key` where it is none, or has other keys than these.
+/// The table that a value is. The fault is `Key` if it is none, or has other keys than `keys`. Whether it has all of these
+/// isn't checked here.
 fn row<'a>(value: &'a Value, keys: &[&str]) -> Result<&'a Table, FieldFault>
     ensures { Reads (λ t. table_view t.now) (row_of (texts keys.now) (view value.now)) result }
 {
@@ -52,7 +57,8 @@ fn row<'a>(value: &'a Value, keys: &[&str]) -> Result<&'a Table, FieldFault>
     Ok(table)
 }
 
-/// Reads a `[[user]]`: a name and a password.
+/// Reads a `[[user]]`: a name and a password. The fault is `Key` if the value is no table, or a key is missing, unknown or no
+/// text, `NoMemory` on an allocation failure. Empty texts and NULs aren't refused here (see `CheckedUsers`).
 fn user(alloc: Global, value: &Value) -> Result<User, FieldFault>
     ensures { Reads (λ x. x) (user_of (view value.now)) result }
 {
@@ -62,7 +68,8 @@ fn user(alloc: Global, value: &Value) -> Result<User, FieldFault>
     Ok(User { name, password })
 }
 
-/// Reads a `[[topic]]`: a name, and how many partitions it has.
+/// Reads a `[[topic]]`: a name, and how many partitions it has, which aren't checked here. The fault is `Key` if the value is
+/// no table, or a key is missing, unknown or of another kind, `NoMemory` on an allocation failure.
 fn topic(alloc: Global, value: &Value) -> Result<TopicSetting, FieldFault>
     ensures { Reads (λ x. x) (topic_of (view value.now)) result }
 {
@@ -72,7 +79,7 @@ fn topic(alloc: Global, value: &Value) -> Result<TopicSetting, FieldFault>
     Ok(TopicSetting { name, partitions })
 }
 
-/// Reads an ACL binding's kind of resource, by its name, such as `Topic`. The fault is `Key` for an unknown one.
+/// Reads an ACL binding's kind of resource, by its name, such as `Topic`. The fault is `Key` if it is missing or unknown.
 fn kind(alloc: Global, table: &Table) -> Result<Kind, FieldFault>
     ensures { Reads (λ x. x) (kind_field (table_view table.now)) result }
 {
@@ -80,7 +87,7 @@ fn kind(alloc: Global, table: &Table) -> Result<Kind, FieldFault>
     Kind::named(word.as_str()).ok_or(FieldFault::Key)
 }
 
-/// Reads an ACL binding's pattern type, `LITERAL` or `PREFIXED`. The fault is `Key` for an unknown one.
+/// Reads an ACL binding's pattern type, `LITERAL` or `PREFIXED`. The fault is `Key` if it is missing or another word.
 fn pattern(alloc: Global, table: &Table) -> Result<Pattern, FieldFault>
     ensures { Reads (λ x. x) (pattern_field (table_view table.now)) result }
 {
@@ -88,7 +95,7 @@ fn pattern(alloc: Global, table: &Table) -> Result<Pattern, FieldFault>
     Pattern::named(word.as_str()).ok_or(FieldFault::Key)
 }
 
-/// Reads an ACL binding's operation, by its name, such as `READ`. The fault is `Key` for an unknown one.
+/// Reads an ACL binding's operation, by its name, such as `READ`. The fault is `Key` if it is missing or unknown.
 fn operation(alloc: Global, table: &Table) -> Result<Operation, FieldFault>
     ensures { Reads (λ x. x) (operation_field (table_view table.now)) result }
 {
@@ -96,7 +103,7 @@ fn operation(alloc: Global, table: &Table) -> Result<Operation, FieldFault>
     Operation::named(word.as_str()).ok_or(FieldFault::Key)
 }
 
-/// Reads whether an ACL binding is `ALLOW` or `DENY`. The fault is `Key` for another word.
+/// Reads whether an ACL binding is `ALLOW` or `DENY`. The fault is `Key` if it is missing or another word.
 fn permission(alloc: Global, table: &Table) -> Result<Permission, FieldFault>
     ensures { Reads (λ x. x) (permission_field (table_view table.now)) result }
 {
@@ -104,7 +111,8 @@ fn permission(alloc: Global, table: &Table) -> Result<Permission, FieldFault>
     Permission::named(word.as_str()).ok_or(FieldFault::Key)
 }
 
-/// Reads an `[[acl]]`, an ACL binding: its resource pattern, and who may or may not do what from which host.
+/// Reads an `[[acl]]`, an ACL binding: its resource pattern, and who may or may not do what from which host. All seven keys
+/// must be there. Whether such a binding may be created isn't checked here. Faults are as in `document`.
 fn binding(alloc: Global, value: &Value) -> Result<Binding, FieldFault>
     ensures { Reads (λ x. x) (binding_of (view value.now)) result }
 {
@@ -127,7 +135,8 @@ fn binding(alloc: Global, value: &Value) -> Result<Binding, FieldFault>
     })
 }
 
-/// Reads each `[[user]]`, in order.
+/// Reads each `[[user]]`, in order; there may be none. The fault is that of the first that has one, or `Key` if `user` is no
+/// list.
 fn users(alloc: Global, table: &Table) -> Result<Items<User>, FieldFault>
     ensures { Reads (λ x. x) (list_field user_of (codes "user") (table_view table.now)) result }
 {
@@ -138,7 +147,8 @@ fn users(alloc: Global, table: &Table) -> Result<Items<User>, FieldFault>
     Ok(users)
 }
 
-/// Reads each `[[topic]]`, in order.
+/// Reads each `[[topic]]`, in order; there may be none. The fault is that of the first that has one, or `Key` if `topic` is no
+/// list.
 fn topics(alloc: Global, table: &Table) -> Result<Items<TopicSetting>, FieldFault>
     ensures { Reads (λ x. x) (list_field topic_of (codes "topic") (table_view table.now)) result }
 {
@@ -149,7 +159,8 @@ fn topics(alloc: Global, table: &Table) -> Result<Items<TopicSetting>, FieldFaul
     Ok(topics)
 }
 
-/// Reads each `[[acl]]`, in order.
+/// Reads each `[[acl]]`, in order; there may be none. The fault is that of the first that has one, or `Key` if `acl` is no
+/// list.
 fn acls(alloc: Global, table: &Table) -> Result<Items<Binding>, FieldFault>
     ensures { Reads (λ x. x) (list_field binding_of (codes "acl") (table_view table.now)) result }
 {
@@ -160,7 +171,7 @@ fn acls(alloc: Global, table: &Table) -> Result<Items<Binding>, FieldFault>
     Ok(acls)
 }
 
-/// Reads the list `supers`: the principals of the super users.
+/// Reads the list `supers`, the principals of the super users; there may be none. The fault is `Key` if it is no list of texts.
 fn supers(alloc: Global, table: &Table) -> Result<Items<Text>, FieldFault>
     ensures { Reads (λ x. x) (list_field as_str (codes "supers") (table_view table.now)) result }
 {
@@ -171,7 +182,9 @@ fn supers(alloc: Global, table: &Table) -> Result<Items<Text>, FieldFault>
     Ok(supers)
 }
 
-/// Reads the settings of the broker: all that a document says but its users. Limits that are left out get their defaults.
+/// Reads the settings of the broker: all that a document says but its users. Defaults: `trail_limit` 1,048,576 events,
+/// `max_batch` 1,048,588 bytes, `max_txn_timeout` 900,000 milliseconds. Ranges and names aren't checked here. Faults are as in
+/// `document`.
 fn settings(alloc: Global, table: &Table) -> Result<Settings, FieldFault>
     ensures { Reads (λ x. x) (settings_of (table_view table.now)) result }
 {
@@ -197,8 +210,8 @@ fn settings(alloc: Global, table: &Table) -> Result<Settings, FieldFault>
     })
 }
 
-/// Reads a whole settings table: its users and its settings. The fault is `Key` where a key is missing, unknown or of another
-/// kind, `NoMemory` after an allocation failure.
+/// Reads a whole settings table: its users and its settings. The fault is `Key` if a key is missing, unknown or of another
+/// kind, or a word of a binding is unknown; `NoMemory` on an allocation failure.
 pub(crate) fn document(alloc: Global, table: &Table) -> Result<UncheckedDocument, FieldFault>
     ensures { Reads (λ x. x) (document_of (table_view table.now)) result }
 {

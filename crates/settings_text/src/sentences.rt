@@ -1,5 +1,5 @@
-//! Where a settings text has a fault, in words for a reader. No contract speaks of them. A name is told with its
-//! escapes, so that each sentence is one line, but for those of TOML.
+//! Where a settings text has a fault, in sentences for a reader. No contract speaks of them. A name appears with its escapes,
+//! so that each sentence is one line, but for those of the TOML reader.
 
 use crate::document::{UncheckedDocument, User};
 use crate::fault::SettingsFault;
@@ -13,7 +13,7 @@ use std::str::from_utf8;
 use toml::{Table, Value};
 use wire_types::Text;
 
-/// What stands at a key.
+/// What kind of value stands at a key.
 #[derive(Clone, Copy, Debug, PartialEq, Eq)]
 enum Shape {
     Integer,
@@ -50,7 +50,7 @@ impl Shape {
         }
     }
 
-    /// A sentence of the words that may stand there; `None` where every value of the shape may.
+    /// A sentence that lists the words of the shape; `None` if the shape isn't one of given words.
     fn words(self) -> Option<&'static str> {
         match self {
             Shape::Kind => Some(KINDS),
@@ -71,7 +71,8 @@ const OPERATIONS: &str =
 
 const PERMISSIONS: &str = "the permissions are ALLOW, DENY";
 
-/// The keys that stand before the first table, or else are taken for keys of that.
+/// The keys that must stand before the first `[[..]]` table of a document, since after it TOML takes them for keys of that
+/// table.
 const BEFORE_TABLES: [&str; 7] = [
     "node_id",
     "host",
@@ -82,14 +83,14 @@ const BEFORE_TABLES: [&str; 7] = [
     "max_txn_timeout",
 ];
 
-/// The keys that may not be left out, and what stands at them.
+/// The keys that may not be left out, and the shapes of their values.
 const TOP: [(&str, Shape); 3] = [
     ("node_id", Shape::Integer),
     ("host", Shape::Text),
     ("port", Shape::Integer),
 ];
 
-/// The keys that may be left out.
+/// The keys that may be left out, and the shapes of their values.
 const OPTIONAL: [(&str, Shape); 7] = [
     ("supers", Shape::List),
     ("trail_limit", Shape::Integer),
@@ -114,7 +115,7 @@ const ACL: [(&str, Shape); 7] = [
     ("permission", Shape::Permission),
 ];
 
-/// The first key of a table that is none of these.
+/// The first key of a table that isn't in `known`.
 fn unknown<'a>(table: &'a Table, known: &[&str]) -> Option<&'a str> {
     for key in table.keys() {
         if !is_among(key.as_str(), known) {
@@ -124,7 +125,8 @@ fn unknown<'a>(table: &'a Table, known: &[&str]) -> Option<&'a str> {
     None
 }
 
-/// A key that belongs before the first table of the document, but stands in this one.
+/// A key that belongs before the first table of the document, but stands in this one, whose own keys are `known`; `None` if
+/// there is no such key.
 fn misplaced(table: &Table, known: &[&str]) -> Option<&'static str> {
     for key in BEFORE_TABLES {
         if find(table, key).is_some() && !is_among(key, known) {
@@ -134,7 +136,8 @@ fn misplaced(table: &Table, known: &[&str]) -> Option<&'static str> {
     None
 }
 
-/// A sentence about a key that stands in one of a list's tables, but belongs before the first table of the document.
+/// A sentence about a key that stands in one of the tables of `list`, but belongs before the first table of the document.
+/// `known` are the keys of these tables. `None` if there is no such key.
 fn misplaced_fault(
     alloc: Global,
     table: &Table,
@@ -155,7 +158,7 @@ fn misplaced_fault(
     Ok(None)
 }
 
-/// A sentence about the value at a key, if it isn't of the shape that is due; else `None`.
+/// A sentence about the value at a key, if it isn't of the shape `shape`; else `None`.
 fn misfit(
     alloc: Global,
     key: &str,
@@ -173,8 +176,8 @@ fn misfit(
     Ok(Some(format!(in alloc; "`{key}` is not {kind}")?))
 }
 
-/// A sentence about a table's first key that is unknown, missing or of the wrong shape, if there is one. Where the table stands
-/// isn't said.
+/// A sentence about a table's first key that is unknown, missing or of the wrong shape, `None` if there is none. `known` are
+/// the keys that may stand there, `required` those that must. The sentence doesn't say where the table stands.
 fn keys_fault(
     alloc: Global,
     table: &Table,
@@ -198,7 +201,8 @@ fn keys_fault(
     Ok(None)
 }
 
-/// A sentence about the first of a list's tables whose keys aren't right, and which one it is; `None` if all are.
+/// A sentence about the first table of `list` whose keys aren't right, with its place in the list; `None` if all are. `known`
+/// and `required` are as in `keys_fault`.
 fn rows_fault(
     alloc: Global,
     table: &Table,
@@ -221,7 +225,7 @@ fn rows_fault(
     Ok(None)
 }
 
-/// A sentence about the first optional key whose value is of the wrong shape; `None` without one.
+/// A sentence about the first optional key of a document whose value is of the wrong shape; `None` if there is none.
 fn optional_fault(alloc: Global, table: &Table) -> Result<Option<String>, AllocError> {
     for (key, shape) in &OPTIONAL {
         if let Some(value) = find(table, key) {
@@ -233,8 +237,8 @@ fn optional_fault(alloc: Global, table: &Table) -> Result<Option<String>, AllocE
     Ok(None)
 }
 
-/// A sentence about the key at which a document has its fault. A key that stands in a table by mistake is told before those that
-/// are missing, since it may be one of them.
+/// A sentence about the key at which a document has its fault. A key that stands in the wrong table comes before those that are
+/// missing, since it may be one of them. If no other fault is found, it is that `supers` is no list of texts.
 fn key_fault(alloc: Global, table: &Table) -> Result<String, AllocError> {
     if let Some(what) = misplaced_fault(alloc, table, "user", &USER_KEYS)? {
         return Ok(what);
@@ -287,7 +291,8 @@ fn repeated(alloc: Global, users: &[User]) -> Result<Option<(usize, usize)>, All
     Ok(None)
 }
 
-/// A sentence about the first user with a bad name or password, or about a name that stands twice; `None` if all is right.
+/// A sentence about the first user with an empty name or password or one with a NUL, or else about a name that stands twice;
+/// `None` if all is right.
 fn user_fault(alloc: Global, users: &[User]) -> Result<Option<String>, AllocError> {
     for (place, user) in users.iter().enumerate() {
         let entry = Entry {
@@ -310,7 +315,8 @@ fn user_fault(alloc: Global, users: &[User]) -> Result<Option<String>, AllocErro
     }
 }
 
-/// A sentence about the first fault of a document whose keys are right.
+/// A sentence about the first fault of a document whose keys are right: of its users, or else of its settings. `fault` is used
+/// if neither has one.
 fn document_fault(
     alloc: Global,
     document: &UncheckedDocument,
@@ -325,7 +331,7 @@ fn document_fault(
     }
 }
 
-/// Whether a text that lacks its quotes may begin with this byte, but no TOML value does.
+/// Whether a text that lacks its quotes may begin with this byte, but no comment and no TOML value does, `inf` and `nan` aside.
 fn begins_bare_text(byte: u8) -> bool {
     byte > b' ' && !byte.is_ascii_digit() && !b"\"'#[{+-tf".contains(&byte)
 }
@@ -350,7 +356,7 @@ fn is_bare_text(text: &str, place: usize) -> bool {
             .is_some_and(|byte| begins_bare_text(*byte))
 }
 
-/// What the TOML reader says is wrong, and that a text stands between quotes, where it lacks these.
+/// What the TOML reader says is wrong; and, if a text without quotes stands there, that a text stands between quotes.
 fn toml_fault(alloc: Global, text: &str, error: &toml::de::Error) -> Result<String, AllocError> {
     let said = format!(in alloc; "{error}")?;
     let said = said.as_str().trim_end();
@@ -362,7 +368,8 @@ fn toml_fault(alloc: Global, text: &str, error: &toml::de::Error) -> Result<Stri
     }
 }
 
-/// Says in a sentence where a settings text has its fault.
+/// Says in a sentence where a settings text has its fault. `fault` is what `document_of_text` answered for this text. An
+/// `AllocError` is an allocation failure.
 pub fn explain(alloc: Global, text: &[u8], fault: SettingsFault) -> Result<String, AllocError> {
     let Ok(text) = from_utf8(text) else {
         return String::from_str(alloc, "the settings are not UTF-8");

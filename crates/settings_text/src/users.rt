@@ -12,7 +12,7 @@ use std::collections::BTreeSet;
 use std::marker::Model;
 use wire_types::{Items, Text};
 
-/// Users of whom each may log in, and no name stands twice. Seen as the list of them.
+/// Users of whom each may log in: no name or password is empty or holds a NUL, and no name stands twice.
 #[derive(Debug)]
 pub struct CheckedUsers {
     users: Items<User>,
@@ -37,8 +37,8 @@ impl Drop for CheckedUsers {
 }
 
 impl CheckedUsers {
-    /// The users, checked. The fault is `User` where a name or password is empty or holds a NUL, or a name stands twice, and
-    /// `NoMemory` after an allocation failure.
+    /// The users, checked. The fault is `User` if a name or password is empty or holds a NUL, or a name stands twice, and
+    /// `NoMemory` on an allocation failure.
     pub fn of(alloc: Global, users: Items<User>) -> Result<CheckedUsers, SettingsFault>
         ensures { Admits (if are_users users then Ok users else Err faults.User) result }
     {
@@ -57,7 +57,7 @@ impl CheckedUsers {
         self.users.as_slice()
     }
 
-    /// Gives up the check, and gives the users alone.
+    /// Returns the users as a plain list, in the order of the settings.
     pub fn into_users(self) -> Items<User>
         ensures value { result ≡ self }
         ensures users { are_users result ≡ true }
@@ -95,7 +95,8 @@ fn are_words(users: &[User]) -> bool
     users.iter().all(|user| is_user(user))
 }
 
-/// Whether no name stands twice, by an ordered set of the names so far: there may be many users.
+/// Whether no name stands twice. An ordered set of the names so far finds it out, since there may be many users. An
+/// `AllocError` is an allocation failure.
 fn are_distinct(alloc: Global, users: &[User]) -> Result<bool, AllocError>
     ensures { IfOk result (λ b. b ≡ are_distinct users.now) }
 {
@@ -108,7 +109,8 @@ fn are_distinct(alloc: Global, users: &[User]) -> Result<bool, AllocError>
     Ok(true)
 }
 
-/// Whether names and passwords aren't empty and hold no NUL, and no name stands twice.
+/// Whether names and passwords aren't empty and hold no NUL, and no name stands twice. An `AllocError` is an allocation
+/// failure.
 fn are_users(alloc: Global, users: &[User]) -> Result<bool, AllocError>
     ensures { IfOk result (λ b. b ≡ are_users users.now) }
 {

@@ -13,7 +13,7 @@ use request_handlers::{Core, Stop};
 use std::alloc::AllocError;
 use wire_types::WriteFault;
 
-/// Appends the reply to a request, as far as it is sent: its fields, or that nothing is sent, or that it is too long and the
+/// Appends the field `answer` for the reply to a request: its fields, or that nothing is sent, or that it is too long and the
 /// connection is closed.
 fn push_request_reply(
     sheet: &mut Sheet,
@@ -32,7 +32,7 @@ fn push_request_reply(
     }
 }
 
-/// Appends a line for each part of an event that was refused.
+/// Appends `refused`, and under it an audit line for each part of an event that was refused; nothing where none was.
 fn push_refusals(sheet: &mut Sheet, refusals: &[Refusal]) -> Result<(), AllocError> {
     if refusals.is_empty() {
         return Ok(());
@@ -54,8 +54,9 @@ fn refusals_at(core: &Core, place: u64) -> &[Refusal] {
     }
 }
 
-/// Hands an event to the core, and appends its reply, where it is a request of this correlation id, and its refusals. Gives the
-/// stop, where the core takes no more events.
+/// Hands an event to the core, and appends its reply and its refusals; the reply only if `correlation`, the id of the request, is
+/// given. If the core takes no more events, appends the stop and gives it, else gives `None`. The error is an allocation failure,
+/// the core's too.
 fn push_step(
     core: &mut Core,
     sheet: &mut Sheet,
@@ -80,8 +81,8 @@ fn push_step(
     }
 }
 
-/// Answers a frame that isn't too long: a request by the core, any other frame as the broker would. Gives the stop, where the
-/// core takes no more events.
+/// Answers a frame that isn't too long, and appends the answer: a request by the core, any other frame as the broker would. Gives
+/// the stop where the core takes no more events.
 fn push_request_step(
     core: &mut Core,
     sheet: &mut Sheet,
@@ -108,7 +109,7 @@ fn push_request_step(
     }
 }
 
-/// Answers a frame; where it is too long, the connection is closed. Gives the stop, where the core takes no more events.
+/// As `push_request_step`; where the frame is longer than one may be, appends that the connection is closed.
 fn push_frame_step(
     core: &mut Core,
     sheet: &mut Sheet,
@@ -122,7 +123,7 @@ fn push_frame_step(
 }
 
 impl Answers for Core {
-    /// Has the core do what an order asks for, and appends what it answers.
+    /// Has the core do what an order asks for, and appends what it answers; of a mark or a tick only the refusals.
     fn push_answer(&mut self, sheet: &mut Sheet, order: Order) -> Result<Option<Stop>, AllocError> {
         match order {
             Order::Ask(sent) => push_frame_step(self, sheet, sent),

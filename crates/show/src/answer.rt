@@ -7,7 +7,7 @@ use std::alloc::AllocError;
 
 /// Where the answers to a script's lines come from.
 pub(crate) trait Answers {
-    /// Appends what an order is answered. Gives the stop, if the script ends there; else `None`.
+    /// Appends the answer to an order, under it. Gives the stop, if the script ends there; else `None`.
     fn push_answer(&mut self, sheet: &mut Sheet, order: Order) -> Result<Option<Stop>, AllocError>;
 }
 
@@ -27,7 +27,7 @@ impl Answers for NoAnswers {
     }
 }
 
-/// Appends that an order isn't answered, since the broker stops there, and why.
+/// Appends that an order isn't answered, since the broker stops at it, and why.
 pub(crate) fn push_stop(sheet: &mut Sheet, stop: Stop) -> Result<(), AllocError> {
     let why = format!(in sheet.alloc(); "none, the broker stops: {stop}")?;
     push_no_answer(sheet, why.as_str())

@@ -19,20 +19,21 @@ const SHOWN: u8 = 0;
 /// The exit status of a script that wasn't shown to its end.
 const FAILED: u8 = 1;
 
-/// Why the text of a file isn't there, and the system's reason where it has one.
+/// Why a file can't be opened or read, and the system's reason where it has one.
 struct Unread {
     why: &'static str,
     reason: Option<ErrorKind>,
 }
 
-/// Prints `kbroker: WHAT: WHY`. If that fails, nothing else does.
+/// Prints `kbroker: WHAT: WHY`, with both texts raw. That an allocation or a write fails isn't reported.
 pub fn explain<E: Write>(alloc: Global, errors: &mut E, what: &str, why: &str) {
     if let Ok(text) = format!(in alloc; "kbroker: {what}: {why}\n") {
         let _ = errors.write_all(text.as_bytes());
     }
 }
 
-/// Prints `kbroker: WHAT: WHY: REASON`, the last being the system's reason. If that fails, nothing else does.
+/// Prints `kbroker: WHAT: WHY: REASON`, the last being the system's reason, which is left out after an allocation failure. That a
+/// write fails isn't reported.
 pub fn explain_by<E: Write>(
     alloc: Global,
     errors: &mut E,
@@ -55,7 +56,7 @@ fn sentence_of(fault: InputFault) -> &'static str {
     }
 }
 
-/// Reads a whole file. The error says why it can't be opened or read, with the system's reason where it has one.
+/// Reads a whole file. The error says why the file can't be opened or read, with the system's reason where it has one.
 fn read_file<T: Files>(rt: &T, alloc: Global, path: &str) -> Result<Vec<u8>, Unread> {
     let mut file = match fs::open(rt, path) {
         Ok(file) => Noted::new(file),
@@ -75,7 +76,7 @@ fn read_file<T: Files>(rt: &T, alloc: Global, path: &str) -> Result<Vec<u8>, Unr
     }
 }
 
-/// Prints why the script can't be read, and gives the exit status 1.
+/// Prints why the script's input, which is called `what`, can't be read, and gives the exit status 1.
 fn give_up<E: Write>(alloc: Global, errors: &mut E, what: &str, fault: InputFault) -> u8
     ensures { result ≡ 1 }
 {
@@ -95,7 +96,7 @@ fn give_up_answers<E: Write>(alloc: Global, errors: &mut E, path: &str, unread: 
     FAILED
 }
 
-/// Prints at which line and why a script was shown no further, and gives the exit status 1.
+/// Prints at which line, counted from 1, and why a script was shown no further, and gives the exit status 1.
 fn end_at<E: Write, Y: Display + Drop>(alloc: Global, errors: &mut E, number: u64, why: Y) -> u8 {
     if let (Ok(what), Ok(why)) = (
         format!(in alloc; "line {number}"),
@@ -106,7 +107,7 @@ fn end_at<E: Write, Y: Display + Drop>(alloc: Global, errors: &mut E, number: u6
     FAILED
 }
 
-/// Prints why a script wasn't shown to its end, if it wasn't, and gives the exit status.
+/// Prints why a script wasn't shown to its end, if it wasn't, and gives the exit status, 0 or 1.
 fn end_of<E: Write>(alloc: Global, errors: &mut E, shown: Result<Shown, ShowFault>) -> u8 {
     match shown {
         Ok(Shown::Whole) => SHOWN,
@@ -127,8 +128,9 @@ fn end_of<E: Write>(alloc: Global, errors: &mut E, shown: Result<Shown, ShowFaul
     }
 }
 
-/// Shows the script that is read from an input of this name, with the answers in the file that is named, or else made anew, and
-/// says why where it isn't shown to its end. Gives the exit status.
+/// Shows the script that `reader` gives to `writer`, with the answers in the file `answers`, or made anew where it is `None`, and
+/// says to `errors` why where the script isn't shown to its end. `name` is what the input is called there. Gives the exit status:
+/// 0 where each line was shown, else 1.
 pub fn show_and_explain<T: Files, R: Read, W: Write, E: Write>(
     rt: &T,
     alloc: Global,

@@ -3,7 +3,7 @@
 use std::io;
 use std::io::{ErrorKind, Read};
 
-/// Reads by a reader, and notes the system's reason where that fails.
+/// A reader that keeps the system's reason why its last read failed.
 #[derive(Drop)]
 pub struct Noted<R> {
     reader: R,
@@ -19,7 +19,7 @@ impl<R: Read> Noted<R> {
         }
     }
 
-    /// The system's reason why the last read failed; `None` where it didn't.
+    /// The system's reason why the last read failed; `None` where it didn't, or none was made.
     pub fn reason(&self) -> Option<ErrorKind> {
         self.reason
     }
@@ -28,7 +28,7 @@ impl<R: Read> Noted<R> {
 impl<R: Read> Read for Noted<R> {
     ghost remaining = { λ n. R.remaining n.reader };
 
-    /// Reads as the reader does, and notes the system's reason where that fails.
+    /// Reads as the reader does, and keeps the system's reason where that fails.
     fn read(&mut self, piece: &mut [u8]) -> io::Result<usize> {
         let read = self.reader.read(piece);
         self.reason = match &read {

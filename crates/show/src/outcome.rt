@@ -13,16 +13,16 @@ pub enum Shown {
     Whole,
     /// Not at all, since its settings are refused.
     Refused(SettingsFault),
-    /// Up to the line of this number, which can't be read.
+    /// Up to the line of this number, counted from 1, which can't be read.
     Unreadable(u64, Unreadable),
-    /// Up to the line of this number, at which the broker stops.
+    /// Up to the line of this number, counted from 1, at which the broker stops.
     Stopped(u64, Stop),
 }
 
 /// Why the showing of a script was given up.
 #[derive(Clone, Copy, Debug, PartialEq, Eq, Error)]
 pub enum ShowFault {
-    /// Memory was refused.
+    /// An allocation failed.
     #[error("there is not enough memory for the next line of the script")]
     NoMemory,
     /// A write failed.

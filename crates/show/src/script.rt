@@ -22,7 +22,8 @@ fn write_text<W: Write>(writer: &mut W, text: &str) -> Result<(), ShowFault> {
     }
 }
 
-/// Appends what an order asks for, and begins what stands under that: its answer.
+/// Appends what an order of the line with this number asks for. What follows stands indented under it until the caller calls
+/// `Sheet::end`.
 fn push_order(sheet: &mut Sheet, number: u64, order: &Order) -> Result<(), AllocError> {
     match order {
         Order::Ask(sent) => push_sent(sheet, number, sent),
@@ -37,7 +38,8 @@ fn push_order(sheet: &mut Sheet, number: u64, order: &Order) -> Result<(), Alloc
     }
 }
 
-/// Appends an order and its answer. Gives how the script ends, if it ends there; else `None`.
+/// Appends an order of the line with this number, and indented under it the answer. Gives `Stopped` where the broker stops at it;
+/// else `None`. Only after an allocation failure the indentation stays.
 fn push_turn<A: Answers>(
     sheet: &mut Sheet,
     answers: &mut A,
@@ -53,7 +55,7 @@ fn push_turn<A: Answers>(
     }
 }
 
-/// Appends that the line of this number can't be read, and why. The script ends there.
+/// Appends that the line of this number can't be read, and why. Gives `Unreadable`, since the script ends there.
 fn push_unreadable(
     sheet: &mut Sheet,
     number: u64,
@@ -64,12 +66,13 @@ fn push_unreadable(
     Ok(Some(Shown::Unreadable(number, unreadable)))
 }
 
-/// Whether an order is a request, which is shown on several lines, so that it stands apart from the others.
+/// Whether an order is a request, which is shown on several lines, so that an empty line separates it from the others.
 fn is_long(order: &Result<Order, Unreadable>) -> bool {
     matches!(order, Ok(Order::Ask(_)))
 }
 
-/// Shows each line of a script and its answer, up to one that ends it, and tells how far it was shown.
+/// Shows each line of a script and its answer, numbered from 1, up to one that ends the script, and gives how far it was shown.
+/// The error is an allocation failure or a failed write.
 fn show_lines<A: Answers, W: Write>(
     alloc: Global,
     script: &[u8],
@@ -100,7 +103,7 @@ fn show_lines<A: Answers, W: Write>(
     Ok(Shown::Whole)
 }
 
-/// Prints `settings refused: FAULT`.
+/// Writes `settings refused: FAULT`, and gives `Refused`.
 fn show_refused<W: Write>(
     alloc: Global,
     fault: SettingsFault,
@@ -112,7 +115,7 @@ fn show_refused<W: Write>(
     Ok(Shown::Refused(fault))
 }
 
-/// Shows a script, whose answers a broker opened with these settings gives anew.
+/// Shows a script, whose answers a broker opened with these settings makes anew; or writes that the settings are refused.
 fn show_anew<W: Write>(
     alloc: Global,
     settings: &[u8],
@@ -130,10 +133,10 @@ fn show_anew<W: Write>(
     }
 }
 
-/// Shows a script: for each line what it asks for, and what that is answered.
+/// Shows a script: for each line what it asks for, and its answer.
 ///
-/// The input is what `replay` reads, and each line is answered as there. With `answers`, the text that an earlier `replay` of
-/// it printed, each is answered what is told there, and the settings aren't looked at. An input without a line `---` has no
+/// The input is what `replay` reads, and each line is answered as there. With `answers`, the text that an earlier `replay` of it
+/// printed, the answers are taken from that text in turn, and the settings aren't looked at. An input without a line `---` has no
 /// settings: without `answers` its requests alone are shown.
 pub fn show_script<W: Write>(
     alloc: Global,

@@ -8,7 +8,8 @@ use msg_admin::{FRAME_LIMIT, Frame, Header, Request, decode_frame};
 use std::alloc::AllocError;
 use wire_types::{Bytes, Cursor, Malformed};
 
-/// Begins what is told of a line: `line N: WHO at HOST WHAT`, with the escapes of an audit line.
+/// Appends `line N: WHO at HOST WHAT`. WHO and HOST are percent-encoded as in an audit line, `what` stands there raw. What
+/// follows stands indented under it until the caller calls `Sheet::end`.
 fn push_heading(
     sheet: &mut Sheet,
     number: u64,
@@ -24,7 +25,8 @@ fn push_heading(
     sheet.begin(line.as_str())
 }
 
-/// Appends which api a caller asks, in which version, and the fields of the request.
+/// Appends which api a caller asks, in which version, and under it the fields of the request. The indentation stays until
+/// `Sheet::end`.
 fn push_asked(
     sheet: &mut Sheet,
     number: u64,
@@ -39,7 +41,8 @@ fn push_asked(
     push_request(sheet, header, request)
 }
 
-/// Says that a frame is no request: what its first fault is, and at which byte that stands.
+/// Says that a frame is no request: what its first fault is, and at which byte, counted from 1 after the size field, or after
+/// which byte, if too many follow the body.
 fn fault_text(sheet: &Sheet, frame: &Bytes, fault: Malformed) -> Result<String, AllocError> {
     let alloc = sheet.alloc();
     let count = frame.len();
@@ -54,8 +57,8 @@ fn fault_text(sheet: &Sheet, frame: &Bytes, fault: Malformed) -> Result<String, 
     }
 }
 
-/// Appends the first fields of a request header, the api key, the version and the correlation id, as far as there are bytes for
-/// them.
+/// Appends the first fields of a request header, the api key, the version and the correlation id, as far as the frame has bytes
+/// for them.
 fn push_start(sheet: &mut Sheet, frame: &Bytes) -> Result<(), AllocError> {
     let mut cursor = Cursor::over(frame);
     if let Ok(key) = cursor.read_i16() {
@@ -70,14 +73,16 @@ fn push_start(sheet: &mut Sheet, frame: &Bytes) -> Result<(), AllocError> {
     Ok(())
 }
 
-/// Appends a frame that asks ApiVersions in a version that isn't served.
+/// Appends a frame that asks ApiVersions in a version that isn't served, and the first fields of its header. The indentation
+/// stays until `Sheet::end`.
 fn push_other_versions(sheet: &mut Sheet, number: u64, sent: &Sent) -> Result<(), AllocError> {
     let what = "asks ApiVersions in a version that isn't served";
     push_heading(sheet, number, &sent.caller, what)?;
     push_start(sheet, &sent.frame)
 }
 
-/// Appends a frame that is no request: its first fault, and the first fields of its header.
+/// Appends a frame that is no request: its first fault, and the first fields of its header. The indentation stays until
+/// `Sheet::end`.
 fn push_malformed(
     sheet: &mut Sheet,
     number: u64,
@@ -89,7 +94,7 @@ fn push_malformed(
     push_start(sheet, &sent.frame)
 }
 
-/// Appends a frame that is longer than one may be: its length alone.
+/// Appends a frame that is longer than one may be: its length alone. The indentation stays until `Sheet::end`.
 fn push_too_long(sheet: &mut Sheet, number: u64, sent: &Sent) -> Result<(), AllocError> {
     let count = sent.frame.len();
     let what = format!(in sheet.alloc();
@@ -98,7 +103,8 @@ fn push_too_long(sheet: &mut Sheet, number: u64, sent: &Sent) -> Result<(), Allo
     push_heading(sheet, number, &sent.caller, what.as_str())
 }
 
-/// Appends what a line sends: who sends it, and the fields of the request, or why it is none.
+/// Appends who sends the line of this number, and the fields of the request, or why the bytes are no served request. What follows
+/// stands indented under it until the caller calls `Sheet::end`.
 pub(crate) fn push_sent(sheet: &mut Sheet, number: u64, sent: &Sent) -> Result<(), AllocError> {
     if sent.frame.len() > FRAME_LIMIT {
         return push_too_long(sheet, number, sent);

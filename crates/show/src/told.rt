@@ -9,7 +9,7 @@ use std::alloc::{AllocError, Global};
 use std::str::from_utf8;
 use wire_types::Bytes;
 
-/// What was printed and isn't taken yet.
+/// The text that an earlier `replay` printed, from the first line on that isn't taken yet.
 #[derive(Drop)]
 pub(crate) struct Told<'a> {
     left: &'a [u8],
@@ -20,7 +20,7 @@ fn is_refusal(text: &[u8]) -> bool {
     text.starts_with(b"denied ".as_slice()) || text.starts_with(b"unmatched ".as_slice())
 }
 
-/// The stop that a printed line is about; `None` for any other line.
+/// The stop that a printed line `stop N` tells; `None` for any other line.
 fn stop_in(line: &[u8]) -> Option<Stop> {
     let stops = [Stop::NoMemory, Stop::TrailFull, Stop::Down];
     stops
@@ -29,7 +29,7 @@ fn stop_in(line: &[u8]) -> Option<Stop> {
         .find(|stop| content(stop.line().as_bytes()) == line)
 }
 
-/// The bytes that a line of hexadecimal digits spells; `None` for any other line.
+/// The bytes that a line of hexadecimal digits spells; `None` for any other line. The error is an allocation failure.
 fn bytes_in(alloc: Global, line: &[u8]) -> Result<Option<Bytes>, AllocError> {
     let Ok(digits) = from_utf8(line) else {
         return Ok(None);
@@ -41,12 +41,13 @@ fn bytes_in(alloc: Global, line: &[u8]) -> Result<Option<Bytes>, AllocError> {
     }
 }
 
-/// Appends that a printed line is no answer, and the line.
+/// Appends that a printed line is no answer, and the line, quoted or in hexadecimal digits.
 fn push_no_reply(sheet: &mut Sheet, line: &[u8]) -> Result<(), AllocError> {
     sheet.push_bytes("answer unreadable", line)
 }
 
-/// Appends the answer to a frame, as a printed line has it: `-`, `closed`, or a response in hexadecimal digits.
+/// Appends the answer to a frame, as a printed line has it: `-`, `closed`, or a response in hexadecimal digits. Of any other line
+/// it says that it is no answer.
 fn push_frame_answer(sheet: &mut Sheet, frame: &Bytes, line: &[u8]) -> Result<(), AllocError> {
     if line == b"-".as_slice() {
         return push_silence(sheet);
@@ -60,7 +61,8 @@ fn push_frame_answer(sheet: &mut Sheet, frame: &Bytes, line: &[u8]) -> Result<()
     }
 }
 
-/// Appends the answer to an order, as a printed line has it. Gives the stop, if the line is about one.
+/// Appends the answer to an order, as a printed line has it; nothing for `-` after a mark or a tick. Gives the stop, if the line
+/// tells one.
 fn push_line_answer(
     sheet: &mut Sheet,
     order: &Order,
@@ -97,7 +99,7 @@ impl<'a> Told<'a> {
         Some(content(line))
     }
 
-    /// Takes the lines about refusals that come next, and appends them.
+    /// Takes the lines about refusals that come next, and appends them under `refused`; nothing where none come.
     fn push_refusals(&mut self, sheet: &mut Sheet) -> Result<(), AllocError> {
         if !is_refusal(self.left) {
             return Ok(());
@@ -116,7 +118,8 @@ impl<'a> Told<'a> {
 }
 
 impl Answers for Told<'_> {
-    /// Takes the lines that answer an order, and appends what they say. Gives the stop, if they are about one.
+    /// Takes the lines that answer an order, and appends what they say; where no line is left, that the answers end before the
+    /// order. Gives the stop, if the first line tells one.
     fn push_answer(&mut self, sheet: &mut Sheet, order: Order) -> Result<Option<Stop>, AllocError> {
         let Some(line) = self.next_line() else {
             push_no_answer(sheet, "none, the answers end before it")?;

@@ -1,4 +1,4 @@
-//! The laws, each the contract of a function with nothing to do. They hold of every world, and so of each that events
+//! The tenants' laws, each the contract of a function with nothing to do. They hold of every world, and so of each that events
 //! reach.
 
 ghost use Rattle.tenant_laws.specs.Laws.{AgreementGoesOn, UngrantedStays};
@@ -15,8 +15,9 @@ pub fn answers_depend_on_grants()
     ensures cores { ReceiptsDependOnGrantedParts }
 {}
 
-/// An OffsetFetch whose list of topics is null is told of exactly the partitions that the caller may describe and for which the
-/// group has an offset, each once, in the settings' order.
+/// An OffsetFetch of a group that the caller may DESCRIBE, with null as its list of topics, lists exactly the partitions of
+/// topics that the caller may DESCRIBE for which the group has a committed offset, or with require_stable a staged one; each
+/// once, in the settings' order, and with the answer that it would get if it were named.
 pub fn null_tells_of_all()
     ensures { NullTellsOfAll }
 {}

@@ -1,4 +1,4 @@
-//! What the adding of partitions and of a group makes of a transaction.
+//! What AddPartitionsToTxn and AddOffsetsToTxn make of the record of a transactional id.
 
 ghost use Rattle.std.specs.Prelude.{◌≡◌, ℕ, Some, IfOk, OnOk, OnErr};
 ghost use Rattle.txn_coordinator.specs.Coordinator.{transition_code};
@@ -11,8 +11,9 @@ use std::alloc::AllocError;
 use wire_types::{ErrorCode, Items, Text};
 
 impl Transaction {
-    /// Why an AddPartitionsToTxn or AddOffsetsToTxn with this producer id and epoch is refused: INVALID_PRODUCER_ID_MAPPING or
-    /// INVALID_PRODUCER_EPOCH if they aren't the id's, CONCURRENT_TRANSACTIONS while markers are pending. `None` if it isn't.
+    /// Why an AddPartitionsToTxn or AddOffsetsToTxn with this producer id and epoch is refused: INVALID_PRODUCER_ID_MAPPING if
+    /// the producer id isn't the id's, INVALID_PRODUCER_EPOCH if the epoch isn't or is the last (32,767),
+    /// CONCURRENT_TRANSACTIONS while markers are pending. `None` if it isn't refused.
     fn adding_refusal(&self, pair: ProducerIdAndEpoch) -> Option<ErrorCode>
         ensures { (moment : ℕ) → result ≡ refusal_of (open_found (Some self.now) pair moment) }
     {
@@ -28,8 +29,8 @@ impl Transaction {
         }
     }
 
-    /// Begins a transaction at `moment`, in milliseconds, unless one is open, and forgets by what a retry of the last EndTxn is
-    /// known.
+    /// Begins a transaction at `moment`, in milliseconds, unless one is open. An EndTxn of version 5 that ended the last one
+    /// isn't known as a retry any more.
     fn open(&mut self, moment: u64)
         ensures { self.new ≡ opened_transaction self.old moment }
     {

@@ -1,4 +1,4 @@
-//! What a call comes to for a record that is there, before anything is changed.
+//! What an InitProducerId or EndTxn changes of the record of a transactional id, worked out before anything is changed.
 
 ghost use Rattle.std.specs.Prelude.{◌≡◌, ◌++◌, Some, OnOk, OnErr, IfOk};
 ghost use Rattle.txn_coordinator.specs.Coordinator.{transition_code, given_for, pending_markers_for, id_and_epoch_answer};
@@ -23,7 +23,7 @@ pub struct Standing {
     pub kept: Option<ProducerIdAndEpoch>,
 }
 
-/// What an InitProducerId or EndTxn comes to, before anything is changed.
+/// What an InitProducerId or EndTxn comes to for the record of a transactional id, before anything is changed.
 #[derive(Drop)]
 pub enum Change {
     /// The call is answered this error code, and the record stays as it is.
@@ -69,8 +69,8 @@ impl Transaction {
         }
     }
 
-    /// Carries a change out, and gives the answer. The owners of new producer ids are appended to `given`, the new markers to
-    /// `owed`. An allocation failure changes nothing.
+    /// Carries a change out, and returns the answer. Appends the owners of new producer ids to `given`, whose places are the
+    /// producer ids, and the new markers to `owed`. An allocation failure changes nothing.
     pub(crate) fn take(
         &mut self,
         given: &mut Vec<Option<Text>>,

@@ -27,7 +27,8 @@ use std::hash::RandomState;
 use std::marker::Model;
 use wire_types::{ErrorCode, Text};
 
-/// The transaction coordinator: the record of each transactional id, the producer ids given out, and the pending markers.
+/// The transaction coordinator: the record of each transactional id, the owners of the producer ids given out, and the pending
+/// markers.
 #[derive(Drop)]
 pub struct Coordinator {
     records: Records,
@@ -61,9 +62,10 @@ impl Coordinator {
         }
     }
 
-    /// InitProducerId for a transactional id, with its timeout and the greatest allowed one, in milliseconds. Errors:
-    /// INVALID_REQUEST for the empty id, INVALID_TRANSACTION_TIMEOUT, and CONCURRENT_TRANSACTIONS while a transaction is open,
-    /// which is then fenced and aborted, or while markers are pending. An allocation failure changes nothing.
+    /// InitProducerId for a transactional id. Spends the permit, whatever comes of it. Errors: INVALID_REQUEST for the empty
+    /// id, INVALID_TRANSACTION_TIMEOUT if `timeout` isn't from 1 to `greatest` (both in milliseconds), and
+    /// CONCURRENT_TRANSACTIONS while a transaction is open, which is then fenced and aborted, or while markers are pending. An
+    /// allocation failure changes nothing.
     pub fn init(
         &mut self,
         alloc: Global,
@@ -99,9 +101,10 @@ impl Coordinator {
         (spent, self.records.init(alloc, given, owed, id, timeout))
     }
 
-    /// AddPartitionsToTxn at `moment`, in milliseconds. Errors: INVALID_REQUEST for the empty id, INVALID_PRODUCER_ID_MAPPING,
-    /// INVALID_PRODUCER_EPOCH, and CONCURRENT_TRANSACTIONS while markers are pending. An empty list of partitions is answered
-    /// NONE. With an error, or on an allocation failure, nothing changes.
+    /// AddPartitionsToTxn at `moment`, in milliseconds. Spends the permit, whatever comes of it. An empty list of partitions is
+    /// answered NONE. Errors: INVALID_REQUEST for the empty id, INVALID_PRODUCER_ID_MAPPING, INVALID_PRODUCER_EPOCH, and
+    /// CONCURRENT_TRANSACTIONS while markers are pending. With an error, or on an allocation failure, nothing changes. Whether
+    /// the partitions exist isn't checked here.
     pub fn add_partitions(
         &mut self,
         policy: &Policy,
@@ -134,9 +137,9 @@ impl Coordinator {
         )
     }
 
-    /// AddOffsetsToTxn at `moment`, in milliseconds. Errors: INVALID_REQUEST for the empty id, INVALID_PRODUCER_ID_MAPPING,
-    /// INVALID_PRODUCER_EPOCH, and CONCURRENT_TRANSACTIONS while markers are pending. With an error, or on an allocation failure,
-    /// nothing changes.
+    /// AddOffsetsToTxn at `moment`, in milliseconds. Spends the permit, whatever comes of it. Errors: INVALID_REQUEST for the
+    /// empty id, INVALID_PRODUCER_ID_MAPPING, INVALID_PRODUCER_EPOCH, and CONCURRENT_TRANSACTIONS while markers are pending.
+    /// With an error, or on an allocation failure, nothing changes.
     pub fn add_group(
         &mut self,
         policy: &Policy,
@@ -162,9 +165,11 @@ impl Coordinator {
         (spent, self.records.add_group(id, pair, moment, group))
     }
 
-    /// EndTxn. Errors: INVALID_REQUEST for the empty id, INVALID_PRODUCER_ID_MAPPING, INVALID_PRODUCER_EPOCH or PRODUCER_FENCED
-    /// by version, CONCURRENT_TRANSACTIONS while its markers are pending, and INVALID_TXN_STATE. The answer has the id's producer
-    /// id and epoch, which replies before version 5 leave out. An allocation failure changes nothing.
+    /// EndTxn. Spends the permit, whatever comes of it. Errors: INVALID_REQUEST for the empty id, INVALID_PRODUCER_ID_MAPPING,
+    /// INVALID_PRODUCER_EPOCH or PRODUCER_FENCED by version, CONCURRENT_TRANSACTIONS while the markers of the same outcome are
+    /// pending, and INVALID_TXN_STATE. NONE for an open transaction only prepares it: its markers are then pending. With NONE
+    /// the answer has the id's producer id and epoch, which replies before version 5 leave out. An allocation failure changes
+    /// nothing.
     pub fn end(
         &mut self,
         alloc: Global,
@@ -193,8 +198,8 @@ impl Coordinator {
         (spent, self.records.end(alloc, given, owed, asked))
     }
 
-    /// Gives out a producer id to an idempotent producer that has no transactional id (InitProducerId with a null id). An
-    /// allocation failure changes nothing.
+    /// Gives out a producer id to an idempotent producer that has no transactional id (InitProducerId with a null id). It takes
+    /// no permit. An allocation failure changes nothing.
     pub fn fresh(&mut self) -> Result<i64, AllocError>
         ensures ok { OnOk result (self.new ≡ given_free self.old) }
         ensures id { IfOk result (λ producer. producer ≡ fresh_producer_id self.old) }
@@ -205,7 +210,7 @@ impl Coordinator {
         Ok(next)
     }
 
-    /// To whom the producer id was given out; a negative one never was. It allocates nothing.
+    /// To whom the producer id was given out; a negative one is `Never`. It allocates nothing.
     pub fn given(&self, producer: i64) -> ProducerIdOwner
         ensures { result ≡ given_by (owner self.now producer) }
     {
@@ -219,9 +224,10 @@ impl Coordinator {
         }
     }
 
-    /// Whether a transactional batch of this producer may be appended to a partition, or its offsets staged for a group: NONE; or
-    /// INVALID_PRODUCER_ID_MAPPING or INVALID_PRODUCER_EPOCH if its producer id or epoch isn't the id's, INVALID_TXN_STATE if no
-    /// transaction is open or the target wasn't added. It allocates nothing.
+    /// Whether a transactional batch of this producer may be appended to a partition, or its offsets staged for a group: NONE;
+    /// or INVALID_PRODUCER_ID_MAPPING if `id` has no record or another producer id; INVALID_PRODUCER_EPOCH if the epoch isn't
+    /// the id's, or for a group if it is the last (32,767); INVALID_TXN_STATE if no transaction is open or the target wasn't
+    /// added. It allocates nothing.
     pub fn holds(&self, id: &Text, pair: ProducerIdAndEpoch, target: &Target) -> ErrorCode
         ensures { result ≡ holding_code self.now id.now pair target.now }
     {
@@ -241,8 +247,8 @@ impl Coordinator {
         }
     }
 
-    /// Fences and aborts each open transaction whose timeout is over at `moment`, in milliseconds: its epoch is raised, and its
-    /// abort markers are pending. An allocation failure changes nothing.
+    /// Fences and aborts each open transaction that is open for longer than its timeout at `moment`, in milliseconds: raises
+    /// its epoch, sets it to PrepareAbort, and queues its abort markers. An allocation failure changes nothing.
     pub fn expire(&mut self, alloc: Global, moment: u64) -> Result<(), AllocError>
         ensures ok { OnOk result (self.new ≡ expire self.old moment) }
         ensures err { OnErr result (self.new ≡ self.old) }
@@ -253,7 +259,7 @@ impl Coordinator {
         Ok(())
     }
 
-    /// The record of each transactional id, in the order of creation, without any permit: for whoever runs the broker.
+    /// The record of each transactional id, in the order of creation, for whoever runs the broker. It takes no permit.
     pub fn transactions(&self) -> &[Transaction]
         ensures { result.now ≡ self.now.transactions }
     {

@@ -1,4 +1,4 @@
-//! How many markers each transactional id owes.
+//! How many pending markers each transactional id has.
 
 ghost use Rattle.std.specs.Prelude.{◌≡◌, ◌+◌, ◌^◌, ◌<◌, ℕ, List, true, nat_lt, if◌then◌else◌, OnOk};
 ghost use Rattle.std.specs.Str.{bytes_eq};
@@ -41,7 +41,8 @@ pub(crate) fn enter_all(
     Ok(())
 }
 
-/// Makes an entry with count 0 for the transactional id, unless it has one. No count changes.
+/// Makes an entry with count 0 for the transactional id, unless it has one. No count changes, not even on an allocation
+/// failure.
 fn enter(counts: &mut Counts, alloc: Global, id: &Text) -> Result<(), AllocError>
     ensures same { (other : List ℕ) → count_of counts.new other ≡ count_of counts.old other }
     ensures kept { (other : List ℕ) → has_count counts.old other ≡ true → has_count counts.new other

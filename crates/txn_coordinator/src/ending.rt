@@ -1,4 +1,4 @@
-//! What EndTxn makes of a transaction.
+//! What EndTxn makes of the record of a transactional id.
 
 ghost use Rattle.std.specs.Prelude.{◌≡◌, ◌<ℤ◌, ◌++◌, pos, length, IfOk, OnOk, OnErr, Some};
 ghost use Rattle.txn_coordinator.specs.Words.{last_epoch};
@@ -52,8 +52,8 @@ impl EndForm {
 }
 
 impl Transaction {
-    /// How version 5 ends a transaction (KIP-890): the id moves to this state and to its next epoch, or to the producer id `next`
-    /// if the epochs are used up, and keeps the old pair to know a retry by. `owed` are the markers to write.
+    /// How version 5 ends a transaction (KIP-890): the id moves to `state` and to its next epoch, or to the producer id `next`
+    /// with epoch 0 if the epochs are used up, and keeps the old pair to know a retry by. `owed` are the markers to write.
     fn renewed(
         &self,
         alloc: Global,
@@ -116,7 +116,8 @@ impl Transaction {
     }
 
     /// What an EndTxn comes to if no transaction is open and no marker pending. Before version 5 it is answered `code`, and
-    /// nothing changes. In version 5 a commit is answered INVALID_TXN_STATE, and an abort raises the epoch (KIP-890).
+    /// nothing changes. In version 5 a commit is answered INVALID_TXN_STATE, and an abort is answered NONE and moves the id to
+    /// its next epoch (KIP-890).
     fn end_closed(
         &self,
         alloc: Global,
@@ -145,7 +146,7 @@ impl Transaction {
     }
 
     /// What an EndTxn comes to for this record: the answer of a retry if it is one, a refusal if the producer id or epoch isn't
-    /// the id's, else the ending. `next` is the next producer id to be given out.
+    /// the id's, else what `end_own` says. `next` is the next producer id to be given out.
     fn ended(&self, alloc: Global, next: i64, asked: &EndTransaction) -> Result<Change, AllocError>
         ensures { IfOk result
             (λ change. transition_of self.now change ≡ end_found (Some self.now) asked.now.form next
@@ -197,9 +198,9 @@ impl Transaction {
         }
     }
 
-    /// Does an EndTxn, and answers the id's producer id and epoch, or INVALID_PRODUCER_ID_MAPPING, INVALID_PRODUCER_EPOCH,
-    /// PRODUCER_FENCED, CONCURRENT_TRANSACTIONS or INVALID_TXN_STATE. The owners of new producer ids are appended to `given`, new
-    /// pending markers to `owed`. An allocation failure changes nothing.
+    /// Does an EndTxn. Answers the id's producer id and epoch, or INVALID_PRODUCER_ID_MAPPING, INVALID_PRODUCER_EPOCH,
+    /// PRODUCER_FENCED, CONCURRENT_TRANSACTIONS or INVALID_TXN_STATE. Appends the owners of new producer ids to `given`, whose
+    /// length is the next producer id, and new pending markers to `owed`. An allocation failure changes nothing.
     pub(crate) fn end(
         &mut self,
         alloc: Global,

@@ -1,4 +1,4 @@
-//! Transactions whose time is over.
+//! Transactions that are open for longer than their timeout.
 
 ghost use Rattle.std.specs.Prelude.{◌≡◌, IfOk};
 ghost use Rattle.std.specs.List.{flat_map};

@@ -1,4 +1,4 @@
-//! What InitProducerId makes of a transactional id.
+//! What InitProducerId makes of the record of a transactional id.
 
 ghost use Rattle.std.specs.Prelude.{◌≡◌, ◌<ℤ◌, ◌++◌, pos, length, IfOk, OnOk, OnErr, Some};
 ghost use Rattle.txn_coordinator.specs.Words.{last_epoch};
@@ -90,8 +90,9 @@ impl Transaction {
         Ok(Change::Moves(ErrorCode::None, begun, given, Items::new(alloc)))
     }
 
-    /// What an InitProducerId comes to for this record: its next epoch, or CONCURRENT_TRANSACTIONS while a transaction is open,
-    /// which is then fenced and aborted, or while markers are pending.
+    /// What an InitProducerId comes to for this record: its next producer id and epoch, or CONCURRENT_TRANSACTIONS while a
+    /// transaction is open, which is then fenced and aborted, or while markers are pending. `next` is the next producer id to
+    /// be given out.
     fn inited(&self, alloc: Global, next: i64, timeout: u32) -> Result<Change, AllocError>
         requires { CanRaise self.now }
         ensures { IfOk result
@@ -109,9 +110,9 @@ impl Transaction {
         }
     }
 
-    /// Does an InitProducerId for an id that has a record, and answers the id's new producer id and epoch, or
-    /// CONCURRENT_TRANSACTIONS. The owners of new producer ids are appended to `given`, new pending markers to `owed`. An
-    /// allocation failure changes nothing.
+    /// Does an InitProducerId for an id that has a record. Answers the id's new producer id and epoch, or
+    /// CONCURRENT_TRANSACTIONS. Appends the owners of new producer ids to `given`, whose length is the next producer id, and
+    /// new pending markers to `owed`. An allocation failure changes nothing.
     pub(crate) fn init(
         &mut self,
         alloc: Global,

@@ -12,8 +12,9 @@ use std::hash::RandomState;
 use std::marker::Model;
 use std::sync::Arc;
 
-/// The partitions of a transaction in the order of adding, each once. Finding or adding one costs one hash look-up, whatever
-/// their number. A copy shares them until one is added: a call that only changes a transaction's state copies none.
+/// The partitions of a transaction in the order of adding, each once. To find one costs one hash look-up, to add one two,
+/// whatever their number. A copy shares them until one is added, which copies them first: a call that only changes a
+/// transaction's state copies none.
 #[derive(Debug, Drop)]
 pub struct Partitions {
     alloc: Global,

@@ -72,8 +72,8 @@ impl Records {
     }
 
     /// Does an InitProducerId for a non-empty transactional id, with an allowed timeout in milliseconds, and creates the record
-    /// of a new id. The owners of new producer ids are appended to `given`, new pending markers to `owed`. An allocation failure
-    /// changes nothing.
+    /// of a new id. Answers the id's new producer id and epoch, or CONCURRENT_TRANSACTIONS. Appends the owners of new producer
+    /// ids to `given`, and new pending markers to `owed`. An allocation failure changes nothing.
     pub(crate) fn init(
         &mut self,
         alloc: Global,
@@ -236,8 +236,8 @@ impl Records {
         transaction.end(alloc, given, owed, asked)
     }
 
-    /// Notes that the last marker of the id's transaction is written: it is committed or aborted from now on. It allocates
-    /// nothing.
+    /// Notes that the last marker of the id's transaction is written: the transaction is committed or aborted. Nothing happens
+    /// if the id has no record. It allocates nothing.
     pub(crate) fn complete(&mut self, id: &Text, outcome: TransactionResult)
         ensures { self.new.list ≡ with_completed outcome (id_record self.old.list id.now)
             self.old.list }

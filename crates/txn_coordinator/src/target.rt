@@ -1,4 +1,4 @@
-//! The partitions and groups that transactions take in.
+//! The partitions and consumer groups that transactions write to.
 
 ghost use Rattle.std.specs.Prelude.{◌≡◌, IfOk};
 ghost use Rattle.txn_coordinator.specs.Words.{has_group};
@@ -7,7 +7,7 @@ use std::alloc::AllocError;
 use std::hash::{Hash, Hasher};
 use wire_types::Text;
 
-/// A partition of a topic.
+/// A partition of a topic, by the topic's name and the partition's index from 0.
 #[derive(Clone, Debug, Drop, PartialEq, Eq)]
 pub struct TopicPartition {
     pub topic: Text,

@@ -12,7 +12,8 @@ use record_batch::TransactionResult;
 use std::alloc::{AllocError, Global};
 use wire_types::{ErrorCode, Items, Text};
 
-/// The greatest epoch of a producer id. No producer writes in it; only the markers that end a transaction carry it.
+/// The greatest epoch of a producer id. No producer writes in it: a transactional id has it only after it was fenced and until
+/// it gets a new producer id. The markers that end a transaction may carry it.
 pub(crate) const LAST_EPOCH: i16 = 32_767;
 
 /// The state of the transaction of a transactional id (KIP-98).
@@ -36,7 +37,7 @@ pub struct Transaction {
     pub pair: ProducerIdAndEpoch,
     /// How long a transaction may stay open, in milliseconds.
     pub timeout: u32,
-    /// The moment at which the transaction began, in milliseconds.
+    /// The moment at which the last transaction began, in milliseconds; 0 before the first.
     pub start: u64,
     pub state: TransactionState,
     /// The partitions that were added, in the order of adding.

@@ -1,4 +1,4 @@
-//! A warrant to write the front marker.
+//! The right to write the front marker of the queue of pending markers.
 
 ghost use Rattle.std.specs.Prelude.{◌≡◌};
 

@@ -1,4 +1,4 @@
-//! AddOffsetsToTxn: a group becomes part of a transaction.
+//! AddOffsetsToTxn: adds a consumer group to a transaction.
 
 ghost use Rattle.std.specs.Prelude.{[], ◌≡◌, IfOk, OnOk};
 ghost use Rattle.broker_world.specs.HandlerResult.{HandlerMeets};
@@ -23,8 +23,8 @@ fn add_offsets_reply(error: ErrorCode) -> Reply
     Reply::AddOffsetsToTxn(AddOffsetsToTxnReply { throttle: 0, error })
 }
 
-/// Adds the group to the transaction by a permit to WRITE on its transactional id, which is spent, and gives the error code.
-/// `moment` is in milliseconds.
+/// Adds the group to the transaction by a permit to WRITE on its transactional id, which is spent in any case. Returns the
+/// coordinator's error code (see `Coordinator::add_group`). `moment` is in milliseconds.
 fn add_by(
     coordinator: &mut Coordinator,
     policy: &Policy,
@@ -51,7 +51,7 @@ fn add_by(
 }
 
 /// Handles an AddOffsetsToTxn: adds the group to the transaction if the caller may WRITE on its transactional id and READ the
-/// group, else answers TRANSACTIONAL_ID_ or GROUP_AUTHORIZATION_FAILED.
+/// group, and answers the coordinator's error code; else answers TRANSACTIONAL_ID_ or GROUP_AUTHORIZATION_FAILED.
 pub fn answer_add_offsets(
     alloc: Global,
     state: &mut State,

@@ -1,4 +1,4 @@
-//! AddPartitionsToTxn: partitions become part of a transaction, all of them or none.
+//! AddPartitionsToTxn: adds partitions to a transaction, all of them or none.
 
 ghost use Rattle.std.specs.Prelude.{◌≡◌, ◌++◌, [], None, true, IfOk, OnOk};
 ghost use Rattle.std.specs.Option.{option_copied};
@@ -25,8 +25,8 @@ use txn_coordinator::{Coordinator, ProducerIdAndEpoch, TopicPartition};
 use walk::{Part, PartApi, Walked, has_part, refusal_code, walk_cut, walk_granted};
 use wire_types::{ErrorCode, Items, Text, Topic};
 
-/// Checks the partitions of an AddPartitionsToTxn before any is added. It holds the caller, the transactional id, what the policy
-/// said to WRITE on it, and the topics. It adds nothing and spends no permit.
+/// Checks the partitions of an AddPartitionsToTxn before any is added. It holds the caller, the transactional id, what the
+/// policy answered to WRITE on it (`asked`), and the topics. It adds nothing and spends no permit.
 #[derive(Drop)]
 pub(crate) struct AddPartitionsCheck<'a> {
     pub(crate) caller: &'a Caller,
@@ -74,8 +74,8 @@ impl<'a> PartApi<i32, AddedPartition, ()> for AddPartitionsCheck<'a> {
     }
 }
 
-/// Answers the partitions of an AddPartitionsToTxn after the coordinator did. It holds the caller, the transactional id, what the
-/// policy said to WRITE on it, and the coordinator's error code, which each partition is told.
+/// Answers the partitions of an AddPartitionsToTxn after the coordinator did. It holds the caller, the transactional id, what
+/// the policy answered to WRITE on it (`asked`), and the coordinator's error code, which is each partition's answer.
 #[derive(Drop)]
 struct AddPartitionsHandler<'a> {
     caller: &'a Caller,
@@ -96,7 +96,7 @@ impl<'a> PartApi<i32, AddedPartition, ()> for AddPartitionsHandler<'a> {
 
     ghost settles = { λ api policy. api.asked.now ≡ settled_value policy (id_question api.caller.now api.id.now) };
 
-    /// Answers one partition the coordinator's error code, and spends its permits, or answers TRANSACTIONAL_ID_ or
+    /// Answers one partition by the coordinator's error code, and spends its permits; or by TRANSACTIONAL_ID_ or
     /// TOPIC_AUTHORIZATION_FAILED if it is refused.
     fn serve(
         &self,
@@ -166,7 +166,8 @@ fn partitions_of(alloc: Global, named: &[Topic<i32>]) -> Result<Vec<TopicPartiti
     Ok(partitions)
 }
 
-/// Appends the partitions with these indices of the topic `name` to the list.
+/// Appends the partitions with these indices of the topic `name` to the list. On an allocation failure some may have been
+/// appended.
 fn push_partitions(
     partitions: &mut Vec<TopicPartition>,
     name: &Text,
@@ -195,8 +196,8 @@ fn add_reply(topics: Items<Topic<AddedPartition>>) -> Reply
     })
 }
 
-/// The reply that answers each partition this error code, and the number of permits that were spent. None of the partitions is
-/// refused.
+/// The reply that answers each partition this error code, and the number of permits that are spent for them. It is known that
+/// none of the partitions is refused. `asked` is what the policy answered to WRITE on the transactional id.
 fn told(
     alloc: Global,
     policy: &Policy,
@@ -225,7 +226,7 @@ fn told(
     Ok((add_reply(walked.topics), walked.spent))
 }
 
-/// The permit of a question to which the policy said yes.
+/// The permit of a question that the policy answered `Yes`. `asked` is known to be granted.
 fn granted(policy: &Policy, asked: Settled) -> Permit
     requires settled { IsSettled policy.now asked }
     requires granted { question_refusal (policy_rules policy.now) asked.question ≡ None }
@@ -237,9 +238,10 @@ fn granted(policy: &Policy, asked: Settled) -> Permit
     }
 }
 
-/// Handles an AddPartitionsToTxn: adds all the partitions to the transaction, or none if one is refused or doesn't exist. The
-/// caller needs WRITE on the transactional id and on each topic. One that is fine is told OPERATION_NOT_ATTEMPTED if none is
-/// added, else what the coordinator answers.
+/// Handles an AddPartitionsToTxn. The caller needs WRITE on the transactional id and on each topic. If a partition is refused
+/// (TRANSACTIONAL_ID_ or TOPIC_AUTHORIZATION_FAILED) or doesn't exist (UNKNOWN_TOPIC_OR_PARTITION), none is added, and all others
+/// are answered OPERATION_NOT_ATTEMPTED. Else the coordinator adds all or none, and each is answered its error code (see
+/// `Coordinator::add_partitions`).
 pub fn answer_add_partitions(
     alloc: Global,
     state: &mut State,
@@ -271,7 +273,7 @@ pub fn answer_add_partitions(
     Ok(served_in_parts(reply, cut.refusals, spent))
 }
 
-/// The answers where no partition is added, and the refusals. No permit is spent.
+/// The partitions' answers if none is added, and the refusals. No permit is spent.
 fn cut(
     alloc: Global,
     policy: &Policy,
@@ -299,8 +301,9 @@ fn cut(
     walk_cut(alloc, &api, policy, named)
 }
 
-/// Adds all the partitions to the transaction, and gives the coordinator's error code; NONE if the request names none. The caller
-/// may WRITE on the transactional id, as `asked` says. `moment` is in milliseconds.
+/// Adds all the partitions to the transaction, and returns the coordinator's error code; NONE if the request names none.
+/// `asked` is the policy's answer to WRITE on the transactional id, known to be granted if there is a partition. `moment` is in
+/// milliseconds.
 fn add_all(
     alloc: Global,
     coordinator: &mut Coordinator,

@@ -60,7 +60,9 @@ fn end_reply(request: &EndTxnRequest, answer: ProducerIdAnswer) -> Reply
     })
 }
 
-/// Ends the transaction by a permit to WRITE on its transactional id, which is spent.
+/// Ends the transaction by a permit to WRITE on its transactional id, which is spent in any case: the transaction is prepared,
+/// and its markers are written later (`answer_mark`). A refusal of the coordinator comes as `Ok` too, with its error code in
+/// the answer; `AllocError` is an allocation failure.
 fn end_by(
     alloc: Global,
     coordinator: &mut Coordinator,
@@ -91,8 +93,9 @@ fn end_by(
     Ok((spent, answer?))
 }
 
-/// Handles an EndTxn: commits or aborts the transaction if the caller may WRITE on its transactional id, else answers
-/// TRANSACTIONAL_ID_AUTHORIZATION_FAILED. The markers are written later.
+/// Handles an EndTxn: commits or aborts the transaction if the caller may WRITE on its transactional id, and answers the
+/// coordinator's error code (see `Coordinator::end`); else answers TRANSACTIONAL_ID_AUTHORIZATION_FAILED. The answer comes
+/// before the markers are written.
 pub fn answer_end_txn(
     alloc: Global,
     state: &mut State,

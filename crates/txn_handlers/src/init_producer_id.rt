@@ -1,4 +1,4 @@
-//! InitProducerId: a producer, or a transactional id, is given a producer id with an epoch.
+//! InitProducerId: gives a transactional id, or a producer without one, a producer id with an epoch.
 
 ghost use Rattle.std.specs.Prelude.{[], ◌≡◌, ◌&&◌, is_none, IfOk, OnOk};
 ghost use Rattle.authorizer.specs.AnyTopic.{any_topic};
@@ -16,7 +16,7 @@ use txn_coordinator::{Coordinator, ProducerIdAnswer};
 use walk::refusal_code;
 use wire_types::{ErrorCode, Text};
 
-/// The question whether the caller may WRITE on the transactional id, or without one may do IDEMPOTENT_WRITE on the cluster.
+/// The question whether the caller may WRITE on the transactional id, or, if there is none, do IDEMPOTENT_WRITE on the cluster.
 fn init_question(alloc: Global, caller: &Caller, id: &Option<Text>) -> Result<Question, AllocError>
     ensures { IfOk result (λ question. question ≡ init_question caller.now id.now) }
 {
@@ -62,9 +62,9 @@ fn init_answered(answer: ProducerIdAnswer) -> Reply
     })
 }
 
-/// Handles an InitProducerId: gives a producer id and epoch to the transactional id if the caller may WRITE on it, or without one
-/// to an idempotent producer if the caller may do IDEMPOTENT_WRITE on the cluster or WRITE on any topic. Else answers
-/// TRANSACTIONAL_ID_ or CLUSTER_AUTHORIZATION_FAILED.
+/// Handles an InitProducerId: gives a producer id and epoch to the transactional id if the caller may WRITE on it, or, without
+/// one, to an idempotent producer if the caller may do IDEMPOTENT_WRITE on the cluster or WRITE on any topic. Else answers
+/// TRANSACTIONAL_ID_ or CLUSTER_AUTHORIZATION_FAILED. Other errors are those of `Coordinator::init`.
 pub fn answer_init_producer_id(
     alloc: Global,
     state: &mut State,
@@ -94,7 +94,8 @@ pub fn answer_init_producer_id(
     }
 }
 
-/// Whether the request has no transactional id and the caller may WRITE on any topic, which is enough then.
+/// Whether the request has no transactional id and the caller may WRITE on any topic, which suffices without IDEMPOTENT_WRITE
+/// on the cluster (KIP-679).
 fn any_topic_suffices(state: &State, caller: &Caller, request: &InitProducerIdRequest) -> bool
     ensures { result
         ≡ (is_none request.now.transactional_id && any_topic state.now.book.entries caller.now.who
@@ -103,8 +104,9 @@ fn any_topic_suffices(state: &State, caller: &Caller, request: &InitProducerIdRe
     request.transactional_id.is_none() && state.policy.any_topic(&caller.who, &caller.host)
 }
 
-/// Carries an allowed InitProducerId out and spends its permit: without a transactional id gives out the next producer id, else
-/// asks the coordinator for the id's next epoch. `greatest` is the greatest transaction timeout, in milliseconds.
+/// Carries an allowed InitProducerId out and spends its permit in any case: without a transactional id gives out the next
+/// producer id, else asks the coordinator for the id's next epoch (`Coordinator::init`). `greatest` is the greatest transaction
+/// timeout, in milliseconds.
 fn initialize(
     alloc: Global,
     coordinator: &mut Coordinator,

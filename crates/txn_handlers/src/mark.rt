@@ -1,4 +1,4 @@
-//! A marker step: the front marker that is pending is written.
+//! A marker step: writes the front one of the pending markers.
 
 ghost use Rattle.std.specs.Prelude.{◌≡◌, ◌<◌, [], OnOk, OnErr};
 ghost use Rattle.broker_world.specs.HandlerResult.{HandlerMeets};
@@ -43,8 +43,8 @@ fn write_marker(
     }
 }
 
-/// Writes the front marker, if one is pending, and tells how many are left. No permission is asked: whose transaction it is, and
-/// what that principal may do by now, doesn't matter.
+/// Writes the front marker, if one is pending (`Marked`, with the number of those left), else answers `Idle`. No permission is
+/// asked: what the transaction's principal may do by then doesn't matter. After an allocation failure the marker stays pending.
 pub fn answer_mark(alloc: Global, state: &mut State) -> Result<HandlerResult, AllocError>
     requires { most_end state.old.topics < 9223372036854775807 }
     ensures { HandlerMeets state.old state.new (mark_outcome state.old) [] [] result }

@@ -1,4 +1,4 @@
-//! TxnOffsetCommit: offsets of partitions are committed for a group with a transaction.
+//! TxnOffsetCommit: stages offsets of partitions for a group in a transaction.
 
 ghost use Rattle.std.specs.Prelude.{◌≡◌, [], IfOk, OnOk};
 ghost use Rattle.std.specs.Option.{option_copied};
@@ -27,19 +27,19 @@ use txn_coordinator::{Coordinator, ProducerIdAndEpoch, Target};
 use walk::{Part, PartApi, Walked, refusal_code, walk};
 use wire_types::{ErrorCode, Text};
 
-/// Serves the partitions of a TxnOffsetCommit. It holds the caller, its transaction, the group and member for which it commits,
-/// what the policy said to WRITE on the transactional id and to READ of the group, and the topics.
+/// Serves the partitions of a TxnOffsetCommit. It holds the caller, its transactional id with producer id and epoch (`pair`),
+/// the group and member for which it commits, the policy's answers about both, and the topics.
 #[derive(Drop)]
 pub(crate) struct TxnOffsetCommitHandler<'a> {
     pub(crate) caller: &'a Caller,
     pub(crate) id: &'a Text,
-    /// What the policy said to WRITE on the transactional id.
+    /// What the policy answered to WRITE on the transactional id.
     pub(crate) id_asked: &'a Settled,
     pub(crate) pair: ProducerIdAndEpoch,
     pub(crate) metadata: GroupMetadata<'a>,
-    /// What the policy said to READ of the group.
+    /// What the policy answered to READ of the group.
     pub(crate) group_asked: &'a Settled,
-    /// Why the transaction can't commit for the group: the error code for each partition. `None` if it can.
+    /// Why the transaction can't commit for the group: the error code of each allowed partition. `None` if it can.
     pub(crate) refusal: Option<ErrorCode>,
     pub(crate) topics: &'a Topics,
 }
@@ -92,8 +92,9 @@ impl<'a> PartApi<OffsetToStage, StagedOffset, Groups> for TxnOffsetCommitHandler
 }
 
 impl<'a> TxnOffsetCommitHandler<'a> {
-    /// Stages the offset of a partition that the caller may commit, by the permit to READ the group, and gives the error code:
-    /// UNKNOWN_TOPIC_OR_PARTITION if it has no log, else the transaction's refusal, else what the group answers.
+    /// Stages the offset of a partition that the caller may commit. Spends the permit to READ the group in any case. Returns
+    /// the error code: UNKNOWN_TOPIC_OR_PARTITION if `log` is `None`, else the transaction's refusal, else what the group
+    /// answers (see `Groups::stage`).
     fn stage(
         &self,
         alloc: Global,
@@ -129,7 +130,7 @@ impl<'a> TxnOffsetCommitHandler<'a> {
     }
 }
 
-/// The offset that the request sends for this partition of the topic `name`.
+/// The offset that the request sends for this partition of the topic `name`. Null metadata becomes the empty text.
 fn offset_staged(
     alloc: Global,
     name: &Text,
@@ -151,7 +152,8 @@ fn staged_code(error: ErrorCode, part: &OffsetToStage) -> StagedOffset
 }
 
 /// Why the coordinator doesn't let the request's transaction commit offsets for its group: INVALID_PRODUCER_ID_MAPPING,
-/// INVALID_PRODUCER_EPOCH, or INVALID_TXN_STATE if no transaction is open or the group wasn't added. `None` if it does.
+/// INVALID_PRODUCER_EPOCH, or INVALID_TXN_STATE if no transaction is open or the group wasn't added. `None` if it does. An
+/// `AllocError` is an allocation failure.
 fn staging_refusal(
     coordinator: &Coordinator,
     request: &TxnOffsetCommitRequest,
@@ -168,7 +170,7 @@ fn staging_refusal(
 }
 
 /// Serves the partitions of a TxnOffsetCommit one after the other. `refusal` is the error code of the allowed ones if the
-/// transaction can't commit for the group.
+/// transaction can't commit for the group. After an allocation failure some offsets may have been staged.
 fn stage_all(
     alloc: Global,
     policy: &Policy,
@@ -218,7 +220,9 @@ fn stage_all(
 }
 
 /// Handles a TxnOffsetCommit: stages the offset of each partition in the transaction (KIP-447) if the caller may WRITE on its
-/// transactional id and READ the group and the topic. Each partition is answered an error code of its own.
+/// transactional id and READ the group and the topic, and if the transaction is open and has the group. Each partition is
+/// answered an error code of its own: TRANSACTIONAL_ID_, GROUP_ or TOPIC_AUTHORIZATION_FAILED, or that of
+/// `TxnOffsetCommitHandler::stage`.
 pub fn answer_txn_offset_commit(
     alloc: Global,
     state: &mut State,

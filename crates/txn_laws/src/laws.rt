@@ -1,4 +1,4 @@
-//! The laws, each the contract of a function with nothing to do.
+//! The laws of transactions, each the contract of a function with nothing to do.
 
 ghost use Rattle.txn_laws.specs.Small.{World};
 ghost use Rattle.txn_laws.specs.Sound.{HaveOwnIds};
@@ -10,9 +10,10 @@ ghost use Rattle.txn_laws.specs.Kept.{KeptLaw, KeptEndLaw};
 ghost use Rattle.txn_laws.specs.Tables.{AddTable, EndTable, GroupTable, InitTable};
 ghost use Rattle.txn_laws.specs.TurnedAway.{TurnsAwayByTable};
 
-/// Tables of the protocol's numbers say what an EndTxn of the right producer id and epoch is answered, how many markers it leaves
-/// to be written and which id and epoch come next, by the transaction's state, the version, and commit or abort. The same holds
-/// of InitProducerId, AddPartitionsToTxn and AddOffsetsToTxn, of which the last two take in what they name and nothing else.
+/// Tables of the protocol's numbers say what an EndTxn with the right producer id and epoch is answered, how many markers it
+/// leaves pending, and which producer id and epoch come next, by the transaction's state, the version, and commit or abort.
+/// Such tables say it too of InitProducerId, AddPartitionsToTxn and AddOffsetsToTxn; the last two add what they name to the
+/// transaction, and nothing else.
 pub fn calls_by_table()
     ensures ends { EndTable }
     ensures inits { InitTable }
@@ -21,7 +22,7 @@ pub fn calls_by_table()
 {}
 
 /// A table of the protocol's numbers says which error a call gets that comes with an empty or unknown transactional id, another
-/// producer id or epoch, or a timeout out of range, or that comes once more; and that it changes nothing.
+/// producer id or epoch, or a timeout out of range, or that is a retry; and that such a call changes nothing.
 pub fn turns_away_by_table()
     ensures { TurnsAwayByTable }
 {}
@@ -33,8 +34,8 @@ pub fn soundness()
 {}
 
 /// A pending marker with fewer than k before it is written by the next k marks, before anything else of its producer comes to
-/// that partition or group. So each transaction that is prepared is completed at each partition and group that it took in, and
-/// one that waits for markers at each that is left.
+/// that partition or group. So each transaction that is prepared is completed at each partition and group that was added to it,
+/// and one that waits for markers at each that is left.
 pub fn completion()
     ensures owed { InSound CompletionLaw }
     ensures owed_reached { InReached CompletionLaw }
@@ -59,7 +60,7 @@ pub fn fencing()
     ensures order_reached { InReached OrderLaw }
 {}
 
-/// A tick that aborts all transactions whose time is over does what aborting them one after the other does, since their
+/// A tick that aborts all transactions whose timeout is over does what aborting them one after the other does, since their
 /// transactional ids differ.
 pub fn expiry()
     ensures own_ids { (w : World) → HaveOwnIds w.coordinator.transactions → ExpiryLaw w }
@@ -70,8 +71,8 @@ pub fn expiry()
     ensures ids_reached { InReached IdsLaw }
 {}
 
-/// A broker whose groups keep of a producer its id, and no epoch, goes on as one whose groups keep both, and shows the end of
-/// each transaction.
+/// A broker whose groups keep of a producer its id, and no epoch, does the same as one whose groups keep both, and shows the
+/// end of each transaction.
 pub fn keeping()
     ensures moves { KeptLaw }
     ensures ends { KeptEndLaw }

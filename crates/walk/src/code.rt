@@ -1,4 +1,4 @@
-//! The codes of refused parts.
+//! The error codes of refused parts.
 
 ghost use Rattle.std.specs.Prelude.{◌≡◌};
 ghost use Rattle.walk.specs.Codes.{refusal_code};

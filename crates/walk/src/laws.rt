@@ -9,8 +9,8 @@ pub fn one_walk<P, A, W>()
     ensures { OneWalk P A W }
 {}
 
-/// Each part is answered at its place in the request: a refused one by its code, any other as the broker without permissions
-/// would.
+/// Each part is answered at its place in the request: a refused one by its code, any other as a broker without permissions
+/// would answer the parts that aren't refused.
 pub fn answers_each_part<P, A, W>()
     ensures { AnswersEachPart P A W }
 {}

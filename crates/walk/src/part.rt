@@ -1,4 +1,4 @@
-//! What an api does with one partition of a topic.
+//! What an api does with one part of a request, such as a partition, and what becomes of the part.
 
 ghost use Rattle.std.specs.Prelude.{◌≡◌, ◌≤◌, Bool, IfOk, OnOk};
 ghost use Rattle.authorizer.specs.Asking.{policy_rules};
@@ -68,7 +68,7 @@ impl<A> Part<A> {
         }
     }
 
-    /// The outcome of a part that was granted all that it asked, and is not served all the same: its permits were declined.
+    /// The outcome of a part that was granted all that it asked, but isn't served: its permits were declined.
     pub fn cut(answer: A) -> Part<A>
         ensures { result ≡ record { answer = answer; ending = endings.Cut } }
     {
@@ -80,7 +80,7 @@ impl<A> Part<A> {
 }
 
 /// What an api does with one part of a request. `P` is a part, such as a partition, `A` its answer, and `W` what serving may
-/// change.
+/// change, such as the topics.
 pub trait PartApi<P, A, W> {
     /// What a part asks, does and is answered.
     ghost rule: { Self → PartRule P A W };
@@ -91,8 +91,9 @@ pub trait PartApi<P, A, W> {
     /// What all parts ask was asked of this policy.
     ghost settles: { Self → PolicyValue → Type 0 };
 
-    /// Asks the policy for one part of the topic of this name. Serves the part if all is granted, else answers the refusal's
-    /// code. An `AllocError` is an allocation failure.
+    /// Asks the policy for one part of the topic `name`. Serves the part if all is granted (`Served`, its permits are spent),
+    /// unless the api cuts granted parts (`Cut`); else answers the refusal's code (`Refused`). An `AllocError` is an allocation
+    /// failure; `world` may have changed by then.
     fn serve(
         &self,
         alloc: Global,

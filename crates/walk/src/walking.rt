@@ -20,8 +20,8 @@ pub struct Walked<A> {
     pub spent: Tally,
 }
 
-/// Serves the parts that are allowed and answers each refused one by its code, in the request's order. After an allocation
-/// failure some parts may have been served.
+/// Serves the parts that are allowed and answers each refused one by its code, in the request's order. The api must not cut
+/// granted parts (see `walk_cut`). After an allocation failure some parts may have been served.
 #[tactic(auto, using(crate::proofs::Weaving::woven, crate::proofs::Spending::all_counted))]
 pub fn walk<P, A: Drop, W, X: PartApi<P, A, W>>(
     alloc: Global,
@@ -46,8 +46,7 @@ pub fn walk<P, A: Drop, W, X: PartApi<P, A, W>>(
     walk_topics(alloc, api, policy, world, topics)
 }
 
-/// Serves all parts of a request of which it is known that none is refused. After an allocation failure some parts may have
-/// been served.
+/// As `walk`, for a request of which it is known that no part is refused.
 #[tactic(auto, using(crate::proofs::Weaving::granted, crate::proofs::Spending::all_counted))]
 pub fn walk_granted<P, A: Drop, W, X: PartApi<P, A, W>>(
     alloc: Global,
@@ -140,8 +139,8 @@ fn walk_topics<P, A: Drop, W, X: PartApi<P, A, W>>(
     })
 }
 
-/// Answers the parts of one topic in order. It adds their refusals to `refusals`, and counts in `spent` the permits that
-/// were spent.
+/// Answers the parts of the topic `name` in order. Adds their refusals to `refusals`, and counts in `spent` the permits that
+/// were spent. After an allocation failure some parts may have been served.
 #[tactic(auto, using(crate::proofs::Weights::part_takes))]
 fn walk_parts<P, A: Drop, W, X: PartApi<P, A, W>>(
     alloc: Global,
@@ -187,7 +186,7 @@ struct PartAnswer<A> {
     refusal: Option<Refusal>,
 }
 
-/// Serves one part or refuses it, and counts in `spent` the permits that were spent for it.
+/// Serves one part of the topic `name`, or refuses or cuts it. Counts in `spent` the permits that were spent for it.
 fn answer_part<P, A: Drop, W, X: PartApi<P, A, W>>(
     alloc: Global,
     api: &X,

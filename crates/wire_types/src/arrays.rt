@@ -19,8 +19,8 @@ use crate::items::Items;
 use crate::wire::Wire;
 use std::alloc::Global;
 
-/// Reads `count` values one after the other. Their memory is taken at once, and is for no more than the bytes that are left can
-/// spell: each value has a byte at least.
+/// Reads `count` values one after the other. Memory is taken at once, for as many values as there are bytes left at most, since
+/// each value has a byte at least.
 fn read_many<T: Wire>(
     alloc: Global,
     cursor: &mut Cursor<'_>,
@@ -36,7 +36,7 @@ fn read_many<T: Wire>(
     Ok(items)
 }
 
-/// Reads `count` values, or refuses a count above the number of bytes left as malformed.
+/// Reads `count` values. `Malformed::Short` for a count above the number of bytes left, before any value is read.
 #[tactic(auto, unfolding(crate::specs::Reading::items_at))]
 fn read_items<T: Wire>(
     alloc: Global,
@@ -51,7 +51,7 @@ fn read_items<T: Wire>(
     read_many(alloc, cursor, count)
 }
 
-/// Reads `count` values that are all of these bytes: what is left after them is malformed.
+/// Reads `count` values, which have to be all the bytes that are left: `Malformed::Rest` where bytes follow them.
 #[tactic(auto, unfolding(crate::specs::Reading::all_at))]
 pub fn read_all<T: Wire>(
     alloc: Global,
@@ -67,7 +67,7 @@ pub fn read_all<T: Wire>(
     Ok(items)
 }
 
-/// Appends the values one after the other.
+/// Appends the values one after the other, without their count. An error leaves `out` as it was.
 #[tactic(auto, unfolding(crate::specs::Spelling::many_fit, crate::specs::Spelling::many_written))]
 fn write_many<T: Wire>(out: &mut Vec<u8>, items: &[T]) -> Result<(), WriteFault>
     ensures spelled { Writes (many_fit T.grammar.fits items.now)
@@ -88,7 +88,8 @@ fn write_many<T: Wire>(out: &mut Vec<u8>, items: &[T]) -> Result<(), WriteFault>
     Ok(())
 }
 
-/// How many of `budget` bytes these values leave, one after the other.
+/// How many of `budget` bytes are left after these values, one after the other and without their count. None where they need
+/// more, or where a length or a count is too large for its field.
 fn deduct_all<T: Wire>(items: &[T], budget: usize) -> Option<usize>
     ensures { result ≡ many_left T.grammar.left items.now budget }
 {
@@ -99,7 +100,8 @@ fn deduct_all<T: Wire>(items: &[T], budget: usize) -> Option<usize>
     Some(left)
 }
 
-/// ARRAY of the protocol guide: a count in four bytes (INT32), and that many values.
+/// Reads an ARRAY of the protocol guide: a count in four bytes (INT32), and that many values. `Malformed::Range` for a negative
+/// count, `Malformed::Short` for one above the number of bytes left.
 #[tactic(auto, using(crate::proofs::Announced::many_after, crate::proofs::Announced::many_refused))]
 pub fn read_array<T: Wire>(alloc: Global, cursor: &mut Cursor<'_>) -> Result<Items<T>, ReadFault>
     ensures { Reads ((array T.grammar).reading cursor.old) result cursor.new }
@@ -108,7 +110,7 @@ pub fn read_array<T: Wire>(alloc: Global, cursor: &mut Cursor<'_>) -> Result<Ite
     read_many(alloc, cursor, count)
 }
 
-/// Appends an ARRAY.
+/// Appends an ARRAY. `TooLong` where a count or a length is too large for its field. An error leaves `out` as it was.
 #[tactic(auto, unfolding(crate::specs::Spelling::after_count_fits))]
 pub fn write_array<T: Wire>(out: &mut Vec<u8>, items: &Items<T>) -> Result<(), WriteFault>
     ensures spelled { Puts (array T.grammar) items.now out.old.items result out.new.items }
@@ -124,7 +126,8 @@ pub fn write_array<T: Wire>(out: &mut Vec<u8>, items: &Items<T>) -> Result<(), W
     rest
 }
 
-/// How many of `budget` bytes an ARRAY leaves. None where it has no spelling, or a longer one.
+/// How many of `budget` bytes are left after the values as an ARRAY. None where they need more, or where a length or a count is
+/// too large for its field.
 pub fn deduct_array<T: Wire>(items: &Items<T>, budget: usize) -> Option<usize>
     ensures { result ≡ (array T.grammar).left items.now budget }
 {
@@ -132,7 +135,7 @@ pub fn deduct_array<T: Wire>(items: &Items<T>, budget: usize) -> Option<usize>
     deduct_all(items.as_slice(), budget)
 }
 
-/// A nullable ARRAY: None where the count is -1.
+/// Reads a nullable ARRAY: as `read_array`, but None where the count is -1.
 #[tactic(auto, unfolding(crate::specs::Reading::after_null_count_at, crate::specs::Reading::null_or))]
 pub fn read_nullable_array<T: Wire>(
     alloc: Global,
@@ -146,7 +149,7 @@ pub fn read_nullable_array<T: Wire>(
     }
 }
 
-/// Appends a nullable ARRAY.
+/// As `write_array`, but None is written as the count -1.
 #[tactic(auto, unfolding(crate::specs::Spelling::after_count_fits, crate::specs::Spelling::after_null_count_fits, crate::specs::Spelling::after_null_count_put, crate::specs::Spelling::null_count_fits, crate::specs::Spelling::compact_null_count_fits))]
 pub fn write_nullable_array<T: Wire>(
     out: &mut Vec<u8>,
@@ -163,7 +166,7 @@ pub fn write_nullable_array<T: Wire>(
     Ok(())
 }
 
-/// How many of `budget` bytes a nullable ARRAY leaves. None where it has no spelling, or a longer one.
+/// As `deduct_array`, but for a nullable ARRAY: its null takes four bytes.
 #[tactic(auto, unfolding(crate::specs::Spelling::after_null_count_left, crate::specs::Spelling::null_count_fits))]
 pub fn deduct_nullable_array<T: Wire>(items: &Option<Items<T>>, budget: usize) -> Option<usize>
     ensures { result ≡ (nullable_array T.grammar).left items.now budget }
@@ -174,7 +177,8 @@ pub fn deduct_nullable_array<T: Wire>(items: &Option<Items<T>>, budget: usize) -
     }
 }
 
-/// COMPACT_ARRAY: a count and one as an UNSIGNED_VARINT, and that many values.
+/// Reads a COMPACT_ARRAY: the count plus one as an UNSIGNED_VARINT, and that many values. `Malformed::Range` where the number is
+/// 0 (null), `Malformed::Short` for a count above the number of bytes left.
 #[tactic(auto, using(crate::proofs::Announced::many_after, crate::proofs::Announced::many_refused))]
 pub fn read_compact_array<T: Wire>(
     alloc: Global,
@@ -186,7 +190,7 @@ pub fn read_compact_array<T: Wire>(
     read_many(alloc, cursor, count)
 }
 
-/// Appends a COMPACT_ARRAY.
+/// Appends a COMPACT_ARRAY. `TooLong` where a count or a length is too large for its field. An error leaves `out` as it was.
 #[tactic(auto, unfolding(crate::specs::Spelling::after_count_fits))]
 pub fn write_compact_array<T: Wire>(out: &mut Vec<u8>, items: &Items<T>) -> Result<(), WriteFault>
     ensures spelled { Puts (compact_array T.grammar) items.now out.old.items result out.new.items }
@@ -202,7 +206,8 @@ pub fn write_compact_array<T: Wire>(out: &mut Vec<u8>, items: &Items<T>) -> Resu
     rest
 }
 
-/// How many of `budget` bytes a COMPACT_ARRAY leaves. None where it has no spelling, or a longer one.
+/// How many of `budget` bytes are left after the values as a COMPACT_ARRAY. None where they need more, or where a length or a
+/// count is too large for its field.
 pub fn deduct_compact_array<T: Wire>(items: &Items<T>, budget: usize) -> Option<usize>
     ensures { result ≡ (compact_array T.grammar).left items.now budget }
 {
@@ -210,7 +215,7 @@ pub fn deduct_compact_array<T: Wire>(items: &Items<T>, budget: usize) -> Option<
     deduct_all(items.as_slice(), budget)
 }
 
-/// A nullable COMPACT_ARRAY: None where its first number is 0.
+/// Reads a nullable COMPACT_ARRAY: as `read_compact_array`, but None where the first number is 0.
 #[tactic(auto, unfolding(crate::specs::Reading::after_null_count_at, crate::specs::Reading::null_or))]
 pub fn read_compact_nullable_array<T: Wire>(
     alloc: Global,
@@ -224,7 +229,7 @@ pub fn read_compact_nullable_array<T: Wire>(
     }
 }
 
-/// Appends a nullable COMPACT_ARRAY.
+/// As `write_compact_array`, but None is written as the number 0.
 #[tactic(auto, unfolding(crate::specs::Spelling::after_count_fits, crate::specs::Spelling::after_null_count_fits, crate::specs::Spelling::after_null_count_put, crate::specs::Spelling::null_count_fits, crate::specs::Spelling::compact_null_count_fits))]
 pub fn write_compact_nullable_array<T: Wire>(
     out: &mut Vec<u8>,
@@ -242,7 +247,7 @@ pub fn write_compact_nullable_array<T: Wire>(
     Ok(())
 }
 
-/// How many of `budget` bytes a nullable COMPACT_ARRAY leaves. None where it has no spelling, or a longer one.
+/// As `deduct_compact_array`, but for a nullable COMPACT_ARRAY: its null takes one byte.
 #[tactic(auto, unfolding(crate::specs::Spelling::after_null_count_left, crate::specs::Spelling::null_count_fits, crate::specs::Spelling::compact_null_count_fits, crate::specs::Spelling::compact_null_count_written, crate::specs::Spelling::varint_written))]
 pub fn deduct_compact_nullable_array<T: Wire>(
     items: &Option<Items<T>>,
@@ -256,7 +261,8 @@ pub fn deduct_compact_nullable_array<T: Wire>(
     }
 }
 
-/// An array as a record's headers are: a count as a VARINT, and that many values.
+/// Reads an array as the headers of a record are: a count as a VARINT, and that many values. `Malformed::Range` for a negative
+/// count, `Malformed::Short` for one above the number of bytes left.
 #[tactic(auto, using(crate::proofs::Announced::many_after, crate::proofs::Announced::many_refused))]
 pub fn read_varint_array<T: Wire>(
     alloc: Global,
@@ -268,7 +274,8 @@ pub fn read_varint_array<T: Wire>(
     read_many(alloc, cursor, count)
 }
 
-/// Appends an array whose count is a VARINT.
+/// Appends an array whose count is a VARINT. `TooLong` where a count or a length is too large for its field. An error leaves
+/// `out` as it was.
 #[tactic(auto, unfolding(crate::specs::Spelling::after_count_fits))]
 pub fn write_varint_array<T: Wire>(out: &mut Vec<u8>, items: &Items<T>) -> Result<(), WriteFault>
     ensures spelled { Puts (varint_array T.grammar) items.now out.old.items result out.new.items }
@@ -284,7 +291,8 @@ pub fn write_varint_array<T: Wire>(out: &mut Vec<u8>, items: &Items<T>) -> Resul
     rest
 }
 
-/// How many of `budget` bytes an array whose count is a VARINT leaves. None where it has no spelling, or a longer one.
+/// How many of `budget` bytes are left after an array whose count is a VARINT. None where they need more, or where a length or a
+/// count is too large for its field.
 pub fn deduct_varint_array<T: Wire>(items: &Items<T>, budget: usize) -> Option<usize>
     ensures { result ≡ (varint_array T.grammar).left items.now budget }
 {

@@ -1,4 +1,4 @@
-//! Bytes: BYTES, NULLABLE_BYTES, their compact forms, and those whose length is a VARINT.
+//! The protocol's byte strings: BYTES, NULLABLE_BYTES, their compact forms, and those whose length is a VARINT.
 
 ghost use Rattle.std.specs.Io.{StartsWith};
 ghost use Rattle.std.specs.Prelude.{◌≡◌, ◌+◌, ◌<◌, ◌^◌, None, Some, OnErr, Ok};
@@ -19,7 +19,9 @@ use crate::varints::deduct_varint;
 use std::alloc::Global;
 
 impl<'a> Cursor<'a> {
-    /// BYTES of the protocol guide: their number in four bytes (INT32), and then they.
+    /// Reads BYTES of the protocol guide: a length in four bytes (INT32), and so many bytes. `Malformed::Range` for a negative
+    /// length, `Malformed::Short` where fewer bytes are left. A cursor over shared bytes (`Cursor::over`) gives a part of them,
+    /// another one a copy.
     #[tactic(auto, using(crate::proofs::Announced::content_after, crate::proofs::Announced::front_refused))]
     pub fn read_bytes(&mut self, alloc: Global) -> Result<Bytes, ReadFault>
         ensures { Reads (bytes.reading self.old) result self.new }
@@ -28,7 +30,7 @@ impl<'a> Cursor<'a> {
         self.read_shared(alloc, len as usize)
     }
 
-    /// NULLABLE_BYTES: None where the number is -1.
+    /// Reads NULLABLE_BYTES: as `read_bytes`, but None where the length is -1.
     #[tactic(auto, unfolding(crate::specs::Reading::after_null_count_at, crate::specs::Reading::null_or))]
     pub fn read_nullable_bytes(&mut self, alloc: Global) -> Result<Option<Bytes>, ReadFault>
         ensures { Reads (nullable_bytes.reading self.old) result self.new }
@@ -39,7 +41,8 @@ impl<'a> Cursor<'a> {
         }
     }
 
-    /// COMPACT_BYTES: their number and one as an UNSIGNED_VARINT, and then they.
+    /// Reads COMPACT_BYTES: the length plus one as an UNSIGNED_VARINT, and so many bytes. `Malformed::Range` where the number is
+    /// 0 (null), `Malformed::Short` where fewer bytes are left. Copied or not as by `read_bytes`.
     #[tactic(auto, using(crate::proofs::Announced::content_after, crate::proofs::Announced::front_refused))]
     pub fn read_compact_bytes(&mut self, alloc: Global) -> Result<Bytes, ReadFault>
         ensures { Reads (compact_bytes.reading self.old) result self.new }
@@ -48,7 +51,7 @@ impl<'a> Cursor<'a> {
         self.read_shared(alloc, len as usize)
     }
 
-    /// COMPACT_NULLABLE_BYTES: None where the first number is 0.
+    /// Reads COMPACT_NULLABLE_BYTES: as `read_compact_bytes`, but None where the first number is 0.
     #[tactic(auto, unfolding(crate::specs::Reading::after_null_count_at, crate::specs::Reading::null_or))]
     pub fn read_compact_nullable_bytes(&mut self, alloc: Global) -> Result<Option<Bytes>, ReadFault>
         ensures { Reads (compact_nullable_bytes.reading self.old) result self.new }
@@ -59,7 +62,8 @@ impl<'a> Cursor<'a> {
         }
     }
 
-    /// Bytes as a record's key is: their number as a VARINT, and then they.
+    /// Reads bytes as the key of a record's header is: a length as a VARINT, and so many bytes. `Malformed::Range` for a negative
+    /// length, `Malformed::Short` where fewer bytes are left. Copied or not as by `read_bytes`.
     #[tactic(auto, using(crate::proofs::Announced::content_after, crate::proofs::Announced::front_refused))]
     pub fn read_varint_bytes(&mut self, alloc: Global) -> Result<Bytes, ReadFault>
         ensures { Reads (varint_bytes.reading self.old) result self.new }
@@ -68,7 +72,7 @@ impl<'a> Cursor<'a> {
         self.read_shared(alloc, len as usize)
     }
 
-    /// Bytes as a record's key or value is, which may be null: None where the number is -1.
+    /// Reads bytes as a record's key or value is: as `read_varint_bytes`, but None where the length is -1.
     #[tactic(auto, unfolding(crate::specs::Reading::after_null_count_at, crate::specs::Reading::null_or))]
     pub fn read_varint_nullable_bytes(&mut self, alloc: Global) -> Result<Option<Bytes>, ReadFault>
         ensures { Reads (varint_nullable_bytes.reading self.old) result self.new }
@@ -80,7 +84,7 @@ impl<'a> Cursor<'a> {
     }
 }
 
-/// Appends BYTES.
+/// Appends BYTES. `TooLong` above 2^31 - 1 bytes. An error leaves `out` as it was.
 #[tactic(auto, unfolding(crate::specs::Spelling::after_count_fits))]
 pub fn write_bytes(out: &mut Vec<u8>, value: &Bytes) -> Result<(), WriteFault>
     ensures spelled { Puts bytes value.now out.old.items result out.new.items }
@@ -96,7 +100,7 @@ pub fn write_bytes(out: &mut Vec<u8>, value: &Bytes) -> Result<(), WriteFault>
     Ok(rest?)
 }
 
-/// Appends NULLABLE_BYTES.
+/// Appends NULLABLE_BYTES: as `write_bytes`, but None as the length -1.
 #[tactic(auto, unfolding(crate::specs::Spelling::after_count_fits, crate::specs::Spelling::after_null_count_fits, crate::specs::Spelling::after_null_count_put, crate::specs::Spelling::null_count_fits, crate::specs::Spelling::compact_null_count_fits))]
 pub fn write_nullable_bytes(out: &mut Vec<u8>, value: &Option<Bytes>) -> Result<(), WriteFault>
     ensures spelled { Puts nullable_bytes value.now out.old.items result out.new.items }
@@ -110,7 +114,7 @@ pub fn write_nullable_bytes(out: &mut Vec<u8>, value: &Option<Bytes>) -> Result<
     Ok(())
 }
 
-/// Appends COMPACT_BYTES.
+/// Appends COMPACT_BYTES. `TooLong` above 2^32 - 2 bytes. An error leaves `out` as it was.
 #[tactic(auto, unfolding(crate::specs::Spelling::after_count_fits))]
 pub fn write_compact_bytes(out: &mut Vec<u8>, value: &Bytes) -> Result<(), WriteFault>
     ensures spelled { Puts compact_bytes value.now out.old.items result out.new.items }
@@ -126,7 +130,7 @@ pub fn write_compact_bytes(out: &mut Vec<u8>, value: &Bytes) -> Result<(), Write
     Ok(rest?)
 }
 
-/// Appends COMPACT_NULLABLE_BYTES.
+/// Appends COMPACT_NULLABLE_BYTES: as `write_compact_bytes`, but None as the number 0.
 #[tactic(auto, unfolding(crate::specs::Spelling::after_count_fits, crate::specs::Spelling::after_null_count_fits, crate::specs::Spelling::after_null_count_put, crate::specs::Spelling::null_count_fits, crate::specs::Spelling::compact_null_count_fits))]
 pub fn write_compact_nullable_bytes(
     out: &mut Vec<u8>,
@@ -143,7 +147,7 @@ pub fn write_compact_nullable_bytes(
     Ok(())
 }
 
-/// Appends bytes whose number is a VARINT.
+/// Appends a length as a VARINT, and the bytes. `TooLong` above 2^31 - 1 bytes. An error leaves `out` as it was.
 #[tactic(auto, unfolding(crate::specs::Spelling::after_count_fits))]
 pub fn write_varint_bytes(out: &mut Vec<u8>, value: &Bytes) -> Result<(), WriteFault>
     ensures spelled { Puts varint_bytes value.now out.old.items result out.new.items }
@@ -159,7 +163,7 @@ pub fn write_varint_bytes(out: &mut Vec<u8>, value: &Bytes) -> Result<(), WriteF
     Ok(rest?)
 }
 
-/// Appends bytes whose number is a VARINT, or -1 for None.
+/// As `write_varint_bytes`, but None is written as the length -1.
 #[tactic(auto, unfolding(crate::specs::Spelling::after_count_fits, crate::specs::Spelling::after_null_count_fits, crate::specs::Spelling::after_null_count_put, crate::specs::Spelling::null_count_fits))]
 pub fn write_varint_nullable_bytes(
     out: &mut Vec<u8>,
@@ -176,7 +180,8 @@ pub fn write_varint_nullable_bytes(
     Ok(())
 }
 
-/// How many of `budget` bytes BYTES leave. None where they are too many to be spelled, or more than the budget.
+/// How many of `budget` bytes are left after the value as BYTES. None where they need more, or are too many for their length
+/// field.
 pub fn deduct_bytes(value: &Bytes, budget: usize) -> Option<usize>
     ensures { result ≡ bytes.left value.now budget }
 {
@@ -184,7 +189,7 @@ pub fn deduct_bytes(value: &Bytes, budget: usize) -> Option<usize>
     deduct(value.len(), budget)
 }
 
-/// How many of `budget` bytes NULLABLE_BYTES leave. None where they are too many to be spelled, or more than the budget.
+/// As `deduct_bytes`, but for NULLABLE_BYTES: a null takes four bytes.
 #[tactic(auto, unfolding(crate::specs::Spelling::after_null_count_left, crate::specs::Spelling::null_count_fits))]
 pub fn deduct_nullable_bytes(value: &Option<Bytes>, budget: usize) -> Option<usize>
     ensures { result ≡ nullable_bytes.left value.now budget }
@@ -195,7 +200,8 @@ pub fn deduct_nullable_bytes(value: &Option<Bytes>, budget: usize) -> Option<usi
     }
 }
 
-/// How many of `budget` bytes COMPACT_BYTES leave. None where they are too many to be spelled, or more than the budget.
+/// How many of `budget` bytes are left after the value as COMPACT_BYTES. None where they need more, or are too many for their
+/// length field.
 pub fn deduct_compact_bytes(value: &Bytes, budget: usize) -> Option<usize>
     ensures { result ≡ compact_bytes.left value.now budget }
 {
@@ -203,8 +209,7 @@ pub fn deduct_compact_bytes(value: &Bytes, budget: usize) -> Option<usize>
     deduct(value.len(), budget)
 }
 
-/// How many of `budget` bytes COMPACT_NULLABLE_BYTES leave. None where they are too many to be spelled, or more than the
-/// budget.
+/// As `deduct_compact_bytes`, but for COMPACT_NULLABLE_BYTES: a null takes one byte.
 #[tactic(auto, unfolding(crate::specs::Spelling::after_null_count_left, crate::specs::Spelling::null_count_fits, crate::specs::Spelling::compact_null_count_fits, crate::specs::Spelling::compact_null_count_written, crate::specs::Spelling::varint_written))]
 pub fn deduct_compact_nullable_bytes(value: &Option<Bytes>, budget: usize) -> Option<usize>
     ensures { result ≡ compact_nullable_bytes.left value.now budget }
@@ -215,7 +220,8 @@ pub fn deduct_compact_nullable_bytes(value: &Option<Bytes>, budget: usize) -> Op
     }
 }
 
-/// How many of `budget` bytes are left after these and their number as a VARINT. None where that is more than the budget.
+/// How many of `budget` bytes are left after the value with its length before it as a VARINT. None where they need more, or are
+/// too many for their length field.
 pub fn deduct_varint_bytes(value: &Bytes, budget: usize) -> Option<usize>
     ensures { result ≡ varint_bytes.left value.now budget }
 {
@@ -223,7 +229,7 @@ pub fn deduct_varint_bytes(value: &Bytes, budget: usize) -> Option<usize>
     deduct(value.len(), budget)
 }
 
-/// How many of `budget` bytes are left after these and their number as a VARINT, -1 for None. None where that is more.
+/// As `deduct_varint_bytes`, but None is the length -1, which takes one byte.
 #[tactic(auto, unfolding(crate::specs::Spelling::after_null_count_left, crate::specs::Spelling::null_count_fits))]
 pub fn deduct_varint_nullable_bytes(value: &Option<Bytes>, budget: usize) -> Option<usize>
     ensures { result ≡ varint_nullable_bytes.left value.now budget }

@@ -1,4 +1,4 @@
-//! A value in a block of its own, which contracts see as the value.
+//! A value in a heap block of its own, which contracts see as the value.
 
 ghost use Rattle.std.specs.Prelude.{◌≡◌, IfOk};
 
@@ -8,7 +8,8 @@ use crate::wire::Wire;
 use std::alloc::{AllocError, Global};
 use std::marker::Model;
 
-/// A value after a `Box`, seen as the value: whoever holds it takes room for a pointer alone.
+/// A value in a `Box`, which contracts see as the value. A struct or an enum that holds it takes a pointer's size alone for
+/// it.
 pub struct Boxed<T> {
     boxed: Box<T>,
 }
@@ -26,7 +27,7 @@ impl<T: Drop> Drop for Boxed<T> {
 }
 
 impl<T> Boxed<T> {
-    /// Puts a value into a block of its own. An error is an allocation failure, and drops the value.
+    /// Moves a value into a heap block of its own. An error is an allocation failure, and drops the value.
     pub fn new(alloc: Global, value: T) -> Result<Boxed<T>, AllocError>
     where
         T: Drop,
@@ -37,7 +38,7 @@ impl<T> Boxed<T> {
         })
     }
 
-    /// The value in the block.
+    /// Borrows the value in the block.
     pub fn value(&self) -> &T
         ensures { result.now ≡ self.now }
     {

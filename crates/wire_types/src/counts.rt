@@ -16,7 +16,8 @@ use crate::varints::{deduct_varint, varint_len, write_uvarint, write_varint};
 use std::alloc::AllocError;
 
 impl<'a> Cursor<'a> {
-    /// A count in two bytes (INT16), or None for -1. Another negative number is malformed.
+    /// Reads a count in two bytes (INT16), or None for -1. `Malformed::Range` for another negative number; the bytes left aren't
+    /// counted here.
     #[tactic(auto, unfolding(crate::specs::Reading::null_count_at, crate::specs::Reading::null_or_count))]
     pub(crate) fn read_null_count16(&mut self) -> Result<Option<u16>, Malformed>
         ensures { Takes (null_count16.reading self.old) result self.new }
@@ -32,7 +33,7 @@ impl<'a> Cursor<'a> {
         })
     }
 
-    /// A count in two bytes (INT16). A negative number is malformed.
+    /// As `read_null_count16`, but -1 is `Malformed::Range` too.
     #[tactic(auto, unfolding(crate::specs::Reading::required_at, crate::specs::Reading::not_null))]
     pub(crate) fn read_count16(&mut self) -> Result<u16, Malformed>
         ensures { Takes (count16.reading self.old) result self.new }
@@ -43,7 +44,8 @@ impl<'a> Cursor<'a> {
         }
     }
 
-    /// A count in four bytes (INT32), or None for -1. Another negative number is malformed.
+    /// Reads a count in four bytes (INT32), or None for -1. `Malformed::Range` for another negative number; the bytes left aren't
+    /// counted here.
     #[tactic(auto, unfolding(crate::specs::Reading::null_count_at, crate::specs::Reading::null_or_count))]
     pub(crate) fn read_null_count(&mut self) -> Result<Option<u32>, Malformed>
         ensures { Takes (null_count32.reading self.old) result self.new }
@@ -59,7 +61,7 @@ impl<'a> Cursor<'a> {
         })
     }
 
-    /// The count, or malformed where it is above the number of bytes left.
+    /// Returns the count, or `Malformed::Short` where it is above the number of bytes left.
     fn within(&self, count: u32) -> Result<u32, Malformed>
         ensures { result ≡ (if nat_lt (length self.now) count then Err Short else Ok count) }
     {
@@ -69,7 +71,8 @@ impl<'a> Cursor<'a> {
         Ok(count)
     }
 
-    /// A count in four bytes (INT32). It is malformed where it is negative, or above the number of bytes left.
+    /// Reads a count in four bytes (INT32). `Malformed::Range` where it is negative, `Malformed::Short` where it is above the
+    /// number of bytes left after it.
     #[tactic(auto, unfolding(crate::specs::Reading::counted_at, crate::specs::Reading::required_at, crate::specs::Reading::not_null))]
     pub fn read_count(&mut self) -> Result<u32, Malformed>
         ensures { Takes (counted_at count32.reading self.old) result self.new }
@@ -80,7 +83,7 @@ impl<'a> Cursor<'a> {
         }
     }
 
-    /// A count and one as an UNSIGNED_VARINT, or None for 0.
+    /// Reads a count from an UNSIGNED_VARINT that is one more, or None for 0. The bytes left aren't counted here.
     #[tactic(auto, unfolding(crate::specs::Reading::compact_null_count_at, crate::specs::Reading::one_less))]
     pub(crate) fn read_compact_null_count(&mut self) -> Result<Option<u32>, Malformed>
         ensures { Takes (compact_null_count.reading self.old) result self.new }
@@ -89,7 +92,8 @@ impl<'a> Cursor<'a> {
         Ok(if count == 0 { None } else { Some(count - 1) })
     }
 
-    /// A count and one as an UNSIGNED_VARINT. It is malformed where it is 0, or the count above the number of bytes left.
+    /// Reads a count from an UNSIGNED_VARINT that is one more. `Malformed::Range` where the number is 0 (null),
+    /// `Malformed::Short` where the count is above the number of bytes left after it.
     #[tactic(auto, unfolding(crate::specs::Reading::counted_at, crate::specs::Reading::required_at, crate::specs::Reading::not_null))]
     pub fn read_compact_count(&mut self) -> Result<u32, Malformed>
         ensures { Takes (counted_at compact_count.reading self.old) result self.new }
@@ -100,7 +104,8 @@ impl<'a> Cursor<'a> {
         }
     }
 
-    /// A count as a VARINT, or None for -1. Another negative number is malformed.
+    /// Reads a count as a VARINT, or None for -1. `Malformed::Range` for another negative number; the bytes left aren't counted
+    /// here.
     #[tactic(auto, unfolding(crate::specs::Reading::null_count_at, crate::specs::Reading::null_or_count))]
     pub(crate) fn read_varint_null_count(&mut self) -> Result<Option<u32>, Malformed>
         ensures { Takes (varint_null_count.reading self.old) result self.new }
@@ -116,7 +121,8 @@ impl<'a> Cursor<'a> {
         })
     }
 
-    /// A count as a VARINT. It is malformed where it is negative, or above the number of bytes left.
+    /// Reads a count as a VARINT. `Malformed::Range` where it is negative, `Malformed::Short` where it is above the number of
+    /// bytes left after it.
     #[tactic(auto, unfolding(crate::specs::Reading::counted_at, crate::specs::Reading::required_at, crate::specs::Reading::not_null))]
     pub fn read_varint_count(&mut self) -> Result<u32, Malformed>
         ensures { Takes (counted_at varint_count.reading self.old) result self.new }
@@ -128,7 +134,7 @@ impl<'a> Cursor<'a> {
     }
 }
 
-/// Appends a count in two bytes (INT16). One that an INT16 can't hold is refused.
+/// Appends a count in two bytes (INT16). `TooLong` above 32767. An error leaves `out` as it was.
 #[tactic(auto, unfolding(crate::specs::Spelling::null_count_fits, crate::specs::Spelling::int_written))]
 pub(crate) fn write_count16(out: &mut Vec<u8>, count: usize) -> Result<(), WriteFault>
     ensures spelled { Puts count16 count out.old.items result out.new.items }
@@ -142,7 +148,7 @@ pub(crate) fn write_count16(out: &mut Vec<u8>, count: usize) -> Result<(), Write
     Ok(())
 }
 
-/// Appends -1 in two bytes, the count of null.
+/// Appends -1 in two bytes, the length of a null string. An error leaves `out` as it was.
 pub(crate) fn write_null16(out: &mut Vec<u8>) -> Result<(), AllocError>
     ensures ok { OnOk result (out.new.items ≡ null_count16.put out.old.items None) }
     ensures err { OnErr result (out.new.items ≡ out.old.items) }
@@ -151,7 +157,7 @@ pub(crate) fn write_null16(out: &mut Vec<u8>) -> Result<(), AllocError>
     write_i16(out, -1)
 }
 
-/// Appends a count in four bytes (INT32). One that an INT32 can't hold is refused.
+/// Appends a count in four bytes (INT32). `TooLong` above 2^31 - 1. An error leaves `out` as it was.
 #[tactic(auto, unfolding(crate::specs::Spelling::null_count_fits, crate::specs::Spelling::int_written))]
 pub fn write_count(out: &mut Vec<u8>, count: usize) -> Result<(), WriteFault>
     ensures spelled { Puts count32 count out.old.items result out.new.items }
@@ -165,7 +171,7 @@ pub fn write_count(out: &mut Vec<u8>, count: usize) -> Result<(), WriteFault>
     Ok(())
 }
 
-/// Appends -1 in four bytes, the count of null.
+/// Appends -1 in four bytes, the count of a null array or of null bytes. An error leaves `out` as it was.
 pub(crate) fn write_null(out: &mut Vec<u8>) -> Result<(), AllocError>
     ensures ok { OnOk result (out.new.items ≡ null_count32.put out.old.items None) }
     ensures err { OnErr result (out.new.items ≡ out.old.items) }
@@ -174,7 +180,7 @@ pub(crate) fn write_null(out: &mut Vec<u8>) -> Result<(), AllocError>
     write_i32(out, -1)
 }
 
-/// Appends a count and one as an UNSIGNED_VARINT. One for which that is too large is refused.
+/// Appends the count plus one as an UNSIGNED_VARINT. `TooLong` above 2^32 - 2. An error leaves `out` as it was.
 #[tactic(auto, unfolding(crate::specs::Spelling::compact_null_count_written, crate::specs::Spelling::compact_null_count_fits))]
 pub fn write_compact_count(out: &mut Vec<u8>, count: usize) -> Result<(), WriteFault>
     ensures spelled { Puts compact_count count out.old.items result out.new.items }
@@ -188,7 +194,7 @@ pub fn write_compact_count(out: &mut Vec<u8>, count: usize) -> Result<(), WriteF
     Ok(())
 }
 
-/// Appends the number 0 as an UNSIGNED_VARINT, which stands for null.
+/// Appends the number 0 as an UNSIGNED_VARINT, which stands for null in the compact forms. An error leaves `out` as it was.
 #[tactic(auto, unfolding(crate::specs::Spelling::compact_null_count_written))]
 pub(crate) fn write_compact_null(out: &mut Vec<u8>) -> Result<(), AllocError>
     ensures ok { OnOk result (out.new.items ≡ compact_null_count.put out.old.items None) }
@@ -198,7 +204,7 @@ pub(crate) fn write_compact_null(out: &mut Vec<u8>) -> Result<(), AllocError>
     write_uvarint(out, 0)
 }
 
-/// Appends a count as a VARINT. One that an INT32 can't hold is refused.
+/// Appends a count as a VARINT. `TooLong` above 2^31 - 1. An error leaves `out` as it was.
 #[tactic(auto, unfolding(crate::specs::Spelling::null_count_fits))]
 pub fn write_varint_count(out: &mut Vec<u8>, count: usize) -> Result<(), WriteFault>
     ensures spelled { Puts varint_count count out.old.items result out.new.items }
@@ -212,7 +218,7 @@ pub fn write_varint_count(out: &mut Vec<u8>, count: usize) -> Result<(), WriteFa
     Ok(())
 }
 
-/// Appends -1 as a VARINT, the count of null.
+/// Appends -1 as a VARINT, the length of a null key or value. An error leaves `out` as it was.
 pub(crate) fn write_varint_null(out: &mut Vec<u8>) -> Result<(), AllocError>
     ensures ok { OnOk result (out.new.items ≡ varint_null_count.put out.old.items None) }
     ensures err { OnErr result (out.new.items ≡ out.old.items) }
@@ -221,7 +227,7 @@ pub(crate) fn write_varint_null(out: &mut Vec<u8>) -> Result<(), AllocError>
     write_varint(out, -1)
 }
 
-/// How many of `budget` bytes a count of two bytes leaves. None where an INT16 can't hold it, or less is left.
+/// How many of `budget` bytes are left after the two bytes of a count. None for a count above 32767, or where `budget` is less.
 #[tactic(auto, unfolding(crate::specs::Spelling::null_count_fits, crate::specs::Spelling::left_after))]
 pub(crate) fn deduct_count16(count: usize, budget: usize) -> Option<usize>
     ensures { result ≡ count16.left count budget }
@@ -232,7 +238,8 @@ pub(crate) fn deduct_count16(count: usize, budget: usize) -> Option<usize>
     deduct(2, budget)
 }
 
-/// How many of `budget` bytes a count of four bytes leaves. None where an INT32 can't hold it, or less is left.
+/// How many of `budget` bytes are left after the four bytes of a count. None for a count above 2^31 - 1, or where `budget` is
+/// less.
 #[tactic(auto, unfolding(crate::specs::Spelling::null_count_fits, crate::specs::Spelling::left_after))]
 pub(crate) fn deduct_count(count: usize, budget: usize) -> Option<usize>
     ensures { result ≡ count32.left count budget }
@@ -243,7 +250,8 @@ pub(crate) fn deduct_count(count: usize, budget: usize) -> Option<usize>
     deduct(4, budget)
 }
 
-/// How many of `budget` bytes a count and one leave as an UNSIGNED_VARINT. None where that is too large, or less is left.
+/// How many of `budget` bytes are left after the count plus one as an UNSIGNED_VARINT. None for a count above 2^32 - 2, or where
+/// `budget` is less.
 #[tactic(auto, unfolding(crate::specs::Spelling::compact_null_count_fits, crate::specs::Spelling::compact_null_count_written, crate::specs::Spelling::left_after))]
 pub(crate) fn deduct_compact_count(count: usize, budget: usize) -> Option<usize>
     ensures { result ≡ compact_count.left count budget }
@@ -254,7 +262,7 @@ pub(crate) fn deduct_compact_count(count: usize, budget: usize) -> Option<usize>
     deduct(varint_len(4, count as u64 + 1), budget)
 }
 
-/// How many of `budget` bytes a count as a VARINT leaves. None where an INT32 can't hold it, or less is left.
+/// How many of `budget` bytes are left after a count as a VARINT. None for a count above 2^31 - 1, or where `budget` is less.
 #[tactic(auto, unfolding(crate::specs::Spelling::null_count_fits))]
 pub(crate) fn deduct_varint_count(count: usize, budget: usize) -> Option<usize>
     ensures { result ≡ varint_count.left count budget }

@@ -8,7 +8,8 @@ use crate::shared_bytes::Bytes;
 use std::alloc::Global;
 use std::marker::Model;
 
-/// The bytes that are left, and the shared bytes that they end, if any. After a refusal it isn't used further.
+/// A reader of bytes from left to right: those that are left, and the shared bytes whose end they are, if it was made over some.
+/// After an error its place isn't specified, and it isn't to be read further.
 #[derive(Drop)]
 pub struct Cursor<'a> {
     left: &'a [u8],
@@ -27,7 +28,8 @@ impl<'a> Model for Cursor<'a> {
 }
 
 impl<'a> Cursor<'a> {
-    /// A reader of these bytes, from the first on. What it reads of them is copied.
+    /// A reader of these bytes, from the first on. Texts and `Bytes` that are read from it are copies with memory of their own;
+    /// `read_front` borrows.
     pub fn new(bytes: &'a [u8]) -> Cursor<'a>
         ensures { result ≡ bytes.now }
     {
@@ -37,7 +39,7 @@ impl<'a> Cursor<'a> {
         }
     }
 
-    /// A reader of shared bytes, from the first on. The texts and bytes that it reads are parts of them, and aren't copied.
+    /// A reader of shared bytes, from the first on. Texts and `Bytes` that are read from it are parts of them, and aren't copied.
     pub fn over(bytes: &'a Bytes) -> Cursor<'a>
         ensures { result ≡ bytes.now }
     {
@@ -54,13 +56,14 @@ impl<'a> Cursor<'a> {
         self.left.len()
     }
 
+    /// Whether no bytes are left.
     pub fn is_empty(&self) -> bool
         ensures { IsTrue result ↔ (self.now ≡ []) }
     {
         self.left.is_empty()
     }
 
-    /// The next `len` bytes, or malformed where there are fewer.
+    /// Reads the next `len` bytes, borrowed and not copied. `Malformed::Short` where fewer are left.
     #[tactic(auto, unfolding(crate::specs::Reading::front_at))]
     pub fn read_front(&mut self, len: usize) -> Result<&'a [u8], Malformed>
         ensures { MatchResult result (λ x. front_at len self.old ≡ Ok (x.now, self.new))
@@ -74,7 +77,7 @@ impl<'a> Cursor<'a> {
         Ok(front)
     }
 
-    /// The next byte, or malformed where there is none.
+    /// Reads the next byte. `Malformed::Short` where none is left.
     #[tactic(auto, unfolding(crate::specs::Reading::front_at))]
     pub(crate) fn read_byte(&mut self) -> Result<u8, Malformed>
         ensures { Takes (byte_at self.old) result self.new }
@@ -83,8 +86,8 @@ impl<'a> Cursor<'a> {
         Ok(front[0])
     }
 
-    /// The next `len` bytes as a part of the shared bytes, or as a copy where the reader has none. Where fewer are left they are
-    /// malformed.
+    /// Reads the next `len` bytes: a part of the shared bytes, or a copy where the reader has none. `Malformed::Short` where
+    /// fewer are left. `NoMemory` is an allocation failure, or for a part a full count of owners.
     #[tactic(auto, unfolding(crate::specs::Reading::front_at))]
     pub fn read_shared(&mut self, alloc: Global, len: usize) -> Result<Bytes, ReadFault>
         ensures { Reads (front_at len self.old) result self.new }

@@ -12,7 +12,8 @@ use crate::numbers::write_i16;
 use crate::wire::Wire;
 use std::alloc::Global;
 
-/// The error codes of the protocol that this broker answers.
+/// The error codes of the Kafka protocol that this broker uses, with their numbers on the wire. Any other number is read as
+/// `Malformed::Range`.
 #[derive(Clone, Copy, Debug, PartialEq, Eq)]
 pub enum ErrorCode {
     None = 0,
@@ -98,7 +99,7 @@ impl ErrorCode {
         self as i16
     }
 
-    /// The code of a number, if the number is one of the table.
+    /// The error code with this number on the wire, or None where `ErrorCode` has none.
     #[tactic(auto, unfolding(crate::specs::ErrorCode::code_of, crate::specs::ErrorCode::all_codes))]
     pub fn of_number(number: i16) -> Option<ErrorCode>
         ensures { result ≡ code_of number }
@@ -107,7 +108,7 @@ impl ErrorCode {
     }
 }
 
-/// The first of these codes that has the number, if one has.
+/// The first of `codes` with this number on the wire, or None.
 fn first_of_number(codes: &[ErrorCode], number: i16) -> Option<ErrorCode>
     ensures { result ≡ find (λ code. int_eq (number_of code) number) codes.now }
 {

@@ -5,27 +5,28 @@ ghost use Rattle.std.specs.Prelude.{◌≡◌};
 use std::alloc::{AllocError, AllocFailed};
 use thiserror::Error;
 
-/// What is wrong with the bytes: the first fault from left to right.
+/// Why bytes don't spell a value: the first fault that is met from left to right.
 #[derive(Clone, Copy, Debug, PartialEq, Eq, Error)]
 pub enum Malformed {
     /// Too few bytes, or a count above the number of bytes left.
     #[error("there are too few bytes")]
     Short = 1,
-    /// A length or a count below what its field allows, or a variable-length number that is too large.
+    /// A length or a count below what its field allows, a number of variable length that is too large, or one that its field
+    /// doesn't know (an error code, say).
     #[error("a length, a count or a number is out of its range")]
     Range = 2,
-    /// A text that is not UTF-8.
+    /// A text that isn't UTF-8.
     #[error("a text is not UTF-8")]
     Utf8 = 3,
-    /// An api key or a version that is not served.
+    /// An API key, or a version of it, that isn't served.
     #[error("the api or its version is not served")]
     Unknown = 4,
-    /// Bytes after the body.
+    /// Bytes after the end of what is read.
     #[error("there are bytes behind the body")]
     Rest = 5,
 }
 
-/// Why a value could not be read.
+/// Why a value could not be read: an allocation failure, or bytes that don't spell it.
 #[derive(Clone, Copy, Debug, PartialEq, Eq, Error)]
 pub enum ReadFault {
     #[error("there is not enough memory")]
@@ -64,7 +65,7 @@ impl<T: Drop> From<AllocFailed<T>> for ReadFault {
     }
 }
 
-/// Why a value could not be written.
+/// Why a value could not be written: an allocation failure, or a value that its field can't hold.
 #[derive(Clone, Copy, Debug, PartialEq, Eq, Error)]
 pub enum WriteFault {
     #[error("there is not enough memory")]

@@ -1,4 +1,4 @@
-//! Topics in the messages of flexible versions: in compact forms, with a tagged section after each.
+//! Topics in the messages of flexible versions (KIP-482): in compact forms, with tagged fields after each.
 
 ghost use Rattle.std.specs.Prelude.{◌≡◌, ◌++◌, OnErr};
 ghost use Rattle.std.specs.Io.{StartsWith};
@@ -21,8 +21,8 @@ use crate::topic::Topic;
 use crate::wire::Wire;
 use std::alloc::Global;
 
-/// A topic of a flexible version: its name as a COMPACT_STRING, its partitions as a COMPACT_ARRAY, and tagged fields, which are
-/// skipped.
+/// Reads a topic of a flexible version: its name as a COMPACT_STRING, its partitions as a COMPACT_ARRAY, and tagged fields, which
+/// are skipped.
 #[tactic(auto, unfolding(crate::specs::Topic::flexible_topic_of))]
 fn read_topic<P: Wire>(alloc: Global, cursor: &mut Cursor<'_>) -> Result<Topic<P>, ReadFault>
     ensures { Reads ((flexible_topic_of P.grammar).reading cursor.old) result cursor.new }
@@ -33,7 +33,7 @@ fn read_topic<P: Wire>(alloc: Global, cursor: &mut Cursor<'_>) -> Result<Topic<P
     Ok(Topic { name, partitions })
 }
 
-/// Appends the topic in a flexible version's form. An error may leave a part of it there.
+/// Appends a topic as `read_topic` reads it, with no tagged fields. An error may leave a part of it in `out`.
 #[tactic(auto, unfolding(crate::specs::Topic::flexible_topic_of), using(std::proofs::Transfers::starts_with_trans))]
 fn put_topic<P: Wire>(out: &mut Vec<u8>, topic: &Topic<P>) -> Result<(), WriteFault>
     ensures spelled { Puts (flexible_topic_of P.grammar) topic.now out.old.items result
@@ -46,7 +46,7 @@ fn put_topic<P: Wire>(out: &mut Vec<u8>, topic: &Topic<P>) -> Result<(), WriteFa
     Ok(())
 }
 
-/// Appends the topic in a flexible version's form. An error leaves nothing of it there.
+/// As `put_topic`, but an error leaves `out` as it was.
 fn write_topic<P: Wire>(out: &mut Vec<u8>, topic: &Topic<P>) -> Result<(), WriteFault>
     ensures spelled { Puts (flexible_topic_of P.grammar) topic.now out.old.items result
         out.new.items }
@@ -61,7 +61,8 @@ fn write_topic<P: Wire>(out: &mut Vec<u8>, topic: &Topic<P>) -> Result<(), Write
     written
 }
 
-/// How many of `budget` bytes a topic leaves in a flexible version's form. None where it has no spelling, or a longer one.
+/// How many of `budget` bytes are left after a topic in a flexible version's form. None where it needs more, or where a length or
+/// a count is too large for its field.
 #[tactic(auto, unfolding(crate::specs::Topic::flexible_topic_of))]
 fn deduct_topic<P: Wire>(topic: &Topic<P>, budget: usize) -> Option<usize>
     ensures { result ≡ (flexible_topic_of P.grammar).left topic.now budget }
@@ -71,7 +72,8 @@ fn deduct_topic<P: Wire>(topic: &Topic<P>, budget: usize) -> Option<usize>
     deduct(1, budget)
 }
 
-/// Reads `count` topics one after the other.
+/// Reads `count` topics one after the other. The count isn't compared with the bytes left: the first topic that is missing is
+/// `Malformed::Short`.
 fn read_topics<P: Wire>(
     alloc: Global,
     cursor: &mut Cursor<'_>,
@@ -87,7 +89,7 @@ fn read_topics<P: Wire>(
     Ok(topics)
 }
 
-/// Reads `count` topics, or refuses a count above the number of bytes left as malformed.
+/// As `read_topics`, but a count above the number of bytes left is `Malformed::Short` before any topic is read.
 #[tactic(auto, unfolding(crate::specs::Reading::items_at))]
 fn read_counted<P: Wire>(
     alloc: Global,
@@ -103,7 +105,7 @@ fn read_counted<P: Wire>(
     read_topics(alloc, cursor, count)
 }
 
-/// Appends the topics one after the other.
+/// Appends the topics one after the other, without their count. An error leaves `out` as it was.
 #[tactic(auto, unfolding(crate::specs::Spelling::many_fit, crate::specs::Spelling::many_written))]
 fn write_topics<P: Wire>(out: &mut Vec<u8>, topics: &[Topic<P>]) -> Result<(), WriteFault>
     ensures spelled { Writes (many_fit (flexible_topic_of P.grammar).fits topics.now)
@@ -125,7 +127,8 @@ fn write_topics<P: Wire>(out: &mut Vec<u8>, topics: &[Topic<P>]) -> Result<(), W
     Ok(())
 }
 
-/// How many of `budget` bytes these topics leave, one after the other.
+/// How many of `budget` bytes are left after these topics, one after the other and without their count. None where they need
+/// more, or where a length or a count is too large for its field.
 fn deduct_topics<P: Wire>(topics: &[Topic<P>], budget: usize) -> Option<usize>
     ensures { result ≡ many_left (flexible_topic_of P.grammar).left topics.now budget }
 {
@@ -136,7 +139,8 @@ fn deduct_topics<P: Wire>(topics: &[Topic<P>], budget: usize) -> Option<usize>
     Some(left)
 }
 
-/// The topics of a flexible version, as a COMPACT_ARRAY.
+/// Reads the topics of a flexible version, as a COMPACT_ARRAY. `Malformed::Range` where its first number is 0 (null),
+/// `Malformed::Short` for a count above the number of bytes left.
 #[tactic(auto, using(crate::proofs::Announced::many_after, crate::proofs::Announced::many_refused))]
 pub fn read_flexible_topics<P: Wire>(
     alloc: Global,
@@ -149,7 +153,8 @@ pub fn read_flexible_topics<P: Wire>(
     read_topics(alloc, cursor, count)
 }
 
-/// Appends the topics of a flexible version, as a COMPACT_ARRAY.
+/// Appends the topics in a flexible version's form, as a COMPACT_ARRAY. `TooLong` where a count or a length is too large for its
+/// field. An error leaves `out` as it was.
 #[tactic(auto, unfolding(crate::specs::Spelling::after_count_fits))]
 pub fn write_flexible_topics<P: Wire>(
     out: &mut Vec<u8>,
@@ -169,7 +174,8 @@ pub fn write_flexible_topics<P: Wire>(
     rest
 }
 
-/// How many of `budget` bytes the topics of a flexible version leave. None where they have no spelling, or a longer one.
+/// How many of `budget` bytes are left after the topics as `write_flexible_topics` writes them. None where they need more, or
+/// where a length or a count is too large for its field.
 pub fn deduct_flexible_topics<P: Wire>(topics: &Items<Topic<P>>, budget: usize) -> Option<usize>
     ensures { result ≡ (compact_array (flexible_topic_of P.grammar)).left topics.now budget }
 {
@@ -177,7 +183,7 @@ pub fn deduct_flexible_topics<P: Wire>(topics: &Items<Topic<P>>, budget: usize) 
     deduct_topics(topics.as_slice(), budget)
 }
 
-/// The topics of a flexible version as a nullable COMPACT_ARRAY: None where its first number is 0.
+/// As `read_flexible_topics`, but None where the first number is 0.
 #[tactic(auto, unfolding(crate::specs::Reading::after_null_count_at, crate::specs::Reading::null_or))]
 pub fn read_nullable_flexible_topics<P: Wire>(
     alloc: Global,
@@ -192,7 +198,7 @@ pub fn read_nullable_flexible_topics<P: Wire>(
     }
 }
 
-/// Appends the topics of a flexible version as a nullable COMPACT_ARRAY.
+/// As `write_flexible_topics`, but None is written as the number 0.
 #[tactic(auto, unfolding(crate::specs::Spelling::after_count_fits, crate::specs::Spelling::after_null_count_fits, crate::specs::Spelling::after_null_count_put, crate::specs::Spelling::null_count_fits, crate::specs::Spelling::compact_null_count_fits))]
 pub fn write_nullable_flexible_topics<P: Wire>(
     out: &mut Vec<u8>,
@@ -210,8 +216,7 @@ pub fn write_nullable_flexible_topics<P: Wire>(
     Ok(())
 }
 
-/// How many of `budget` bytes topics that may be null leave in a flexible version. None where they have no spelling, or a longer
-/// one.
+/// As `deduct_flexible_topics`, but a null takes one byte.
 #[tactic(auto, unfolding(crate::specs::Spelling::after_null_count_left, crate::specs::Spelling::null_count_fits, crate::specs::Spelling::compact_null_count_fits, crate::specs::Spelling::compact_null_count_written, crate::specs::Spelling::varint_written))]
 pub fn deduct_nullable_flexible_topics<P: Wire>(
     topics: &Option<Items<Topic<P>>>,

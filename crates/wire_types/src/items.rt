@@ -8,7 +8,7 @@ use std::alloc::{AllocError, Global};
 use std::marker::Model;
 use std::slice;
 
-/// Values in order, seen as their list.
+/// Values in order, which contracts see as their list: the array of a message.
 #[derive(Drop, Debug, Clone)]
 pub struct Items<T> {
     vec: Vec<T>,
@@ -32,7 +32,7 @@ impl<T> Items<T> {
         }
     }
 
-    /// No values, and memory for `count` of them. An error is an allocation failure.
+    /// An empty list with memory for `count` values. An error is an allocation failure.
     pub fn with_capacity(alloc: Global, count: usize) -> Result<Items<T>, AllocError>
         ensures { IfOk result (λ items. items ≡ []) }
     {
@@ -53,6 +53,7 @@ impl<T> Items<T> {
         self.vec.is_empty()
     }
 
+    /// The value at this index, counted from 0, or None past the end.
     pub fn get(&self, index: usize) -> Option<&T>
         ensures { option_copied result ≡ slice_get self.now index }
     {
@@ -72,8 +73,8 @@ impl<T> Items<T> {
         self.vec.as_slice()
     }
 
-    /// Puts a value after the others. Where no memory was taken before, the first value takes its own alone: most lists of a message
-    /// hold one value. An error is an allocation failure, and leaves the list as it was.
+    /// Appends a value. A list without memory takes it for one value only: most lists of a message hold one. An error is an
+    /// allocation failure, leaves the list as it was, and drops the value.
     pub fn push(&mut self, item: T) -> Result<(), AllocError>
     where
         T: Drop,
@@ -87,7 +88,7 @@ impl<T> Items<T> {
         Ok(())
     }
 
-    /// Puts a value after the others, if there is one. An error is an allocation failure, and leaves the list as it was.
+    /// As `push` for a value that is there; None changes nothing.
     pub fn push_some(&mut self, item: Option<T>) -> Result<(), AllocError>
     where
         T: Drop,

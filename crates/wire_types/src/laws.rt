@@ -4,27 +4,27 @@ ghost use Rattle.wire_types.specs.Laws.{FoundIsSpelled, SpelledIsFound, OneValue
 
 use crate::wire::Wire;
 
-/// What a reading finds is spelled by the bytes that it takes.
+/// Where a read finds a value, the bytes that it takes spell that value.
 pub fn found_is_spelled<T: Wire>()
     ensures { FoundIsSpelled T.grammar }
 {}
 
-/// What is spelled at the front of bytes is found there: a refusal comes only where nothing is spelled.
+/// Where bytes begin with a value's spelling, a read finds that value and takes just that spelling.
 pub fn spelled_is_found<T: Wire>()
     ensures { SpelledIsFound T.grammar }
 {}
 
-/// Bytes spell at most one value.
+/// The same bytes spell at most one value.
 pub fn one_value<T: Wire>()
     ensures { OneValue T.grammar }
 {}
 
-/// What is written spells the value, which so is read back.
+/// The bytes that are written for a value spell it. With `spelled_is_found` they are read back as that value.
 pub fn written_is_spelled<T: Wire>()
     ensures { WrittenIsSpelled T.grammar }
 {}
 
-/// What was read can be written, in no more bytes.
+/// Each value that bytes spell can be written, in no more bytes than those.
 pub fn read_fits<T: Wire>()
     ensures { SpelledFits T.grammar }
 {}

@@ -1,4 +1,6 @@
-//! The numbers of a fixed width, big-endian, and truth values: INT8, INT16, INT32, INT64, UINT32, BOOLEAN.
+//! The numbers of a fixed width, big-endian, and truth values: INT8, INT16, INT32, INT64, UINT32, BOOLEAN. A read gives
+//! `Malformed::Short` where too few bytes are left. A write fails on an allocation failure only, and leaves the bytes as they
+//! were.
 
 ghost use Rattle.std.specs.Io.{StartsWith};
 ghost use Rattle.std.specs.Prelude.{◌≡◌, ◌+◌, ◌<◌, ◌++◌, ◌^◌, OnOk, OnErr, Ok};
@@ -14,7 +16,7 @@ use crate::wire::Wire;
 use std::alloc::{AllocError, Global};
 
 impl<'a> Cursor<'a> {
-    /// INT8 of the protocol guide, in one byte.
+    /// Reads an INT8 of the protocol guide, in one byte.
     #[tactic(auto, unfolding(crate::specs::Reading::nat_at, crate::specs::Reading::int_at, crate::specs::Reading::front_at))]
     pub fn read_i8(&mut self) -> Result<i8, Malformed>
         ensures { Takes (int_at w8 self.old) result self.new }
@@ -22,7 +24,7 @@ impl<'a> Cursor<'a> {
         Ok(i8::from_be_bytes([self.read_byte()?]))
     }
 
-    /// INT16, in two bytes, the highest first.
+    /// Reads an INT16, in two bytes.
     #[tactic(auto, unfolding(crate::specs::Reading::nat_at, crate::specs::Reading::int_at, crate::specs::Reading::front_at))]
     pub fn read_i16(&mut self) -> Result<i16, Malformed>
         ensures { Takes (int_at w16 self.old) result self.new }
@@ -31,7 +33,7 @@ impl<'a> Cursor<'a> {
         Ok(i16::from_be_bytes([front[0], front[1]]))
     }
 
-    /// INT32, in four bytes, the highest first.
+    /// Reads an INT32, in four bytes.
     #[tactic(auto, unfolding(crate::specs::Reading::nat_at, crate::specs::Reading::int_at, crate::specs::Reading::front_at))]
     pub fn read_i32(&mut self) -> Result<i32, Malformed>
         ensures { Takes (int_at w32 self.old) result self.new }
@@ -40,7 +42,7 @@ impl<'a> Cursor<'a> {
         Ok(i32::from_be_bytes([front[0], front[1], front[2], front[3]]))
     }
 
-    /// INT64, in eight bytes, the highest first.
+    /// Reads an INT64, in eight bytes.
     #[tactic(auto, unfolding(crate::specs::Reading::nat_at, crate::specs::Reading::int_at, crate::specs::Reading::front_at))]
     pub fn read_i64(&mut self) -> Result<i64, Malformed>
         ensures { Takes (int_at w64 self.old) result self.new }
@@ -51,7 +53,7 @@ impl<'a> Cursor<'a> {
         ]))
     }
 
-    /// UINT32, in four bytes, the highest first.
+    /// Reads a UINT32, in four bytes.
     #[tactic(auto, unfolding(crate::specs::Reading::nat_at, crate::specs::Reading::front_at))]
     pub fn read_u32(&mut self) -> Result<u32, Malformed>
         ensures { Takes (nat_at w32 self.old) result self.new }
@@ -60,7 +62,7 @@ impl<'a> Cursor<'a> {
         Ok(u32::from_be_bytes([front[0], front[1], front[2], front[3]]))
     }
 
-    /// BOOLEAN, in one byte: 0 is false, and any other true.
+    /// Reads a BOOLEAN, in one byte: 0 is false, and any other true.
     #[tactic(auto, unfolding(crate::specs::Reading::bool_at, crate::specs::Reading::front_at))]
     pub fn read_bool(&mut self) -> Result<bool, Malformed>
         ensures { Takes (bool_at self.old) result self.new }
@@ -69,6 +71,7 @@ impl<'a> Cursor<'a> {
     }
 }
 
+/// Appends an INT8, in one byte.
 #[tactic(auto, unfolding(crate::specs::Spelling::int_written))]
 pub fn write_i8(out: &mut Vec<u8>, number: i8) -> Result<(), AllocError>
     ensures ok { OnOk result (out.new.items ≡ out.old.items ++ int8.written number) }
@@ -78,6 +81,7 @@ pub fn write_i8(out: &mut Vec<u8>, number: i8) -> Result<(), AllocError>
     out.extend_from_slice(&number.to_be_bytes())
 }
 
+/// Appends an INT16, in two bytes.
 #[tactic(auto, unfolding(crate::specs::Spelling::int_written))]
 pub fn write_i16(out: &mut Vec<u8>, number: i16) -> Result<(), AllocError>
     ensures ok { OnOk result (out.new.items ≡ out.old.items ++ int16.written number) }
@@ -87,6 +91,7 @@ pub fn write_i16(out: &mut Vec<u8>, number: i16) -> Result<(), AllocError>
     out.extend_from_slice(&number.to_be_bytes())
 }
 
+/// Appends an INT32, in four bytes.
 #[tactic(auto, unfolding(crate::specs::Spelling::int_written))]
 pub fn write_i32(out: &mut Vec<u8>, number: i32) -> Result<(), AllocError>
     ensures ok { OnOk result (out.new.items ≡ out.old.items ++ int32.written number) }
@@ -96,6 +101,7 @@ pub fn write_i32(out: &mut Vec<u8>, number: i32) -> Result<(), AllocError>
     out.extend_from_slice(&number.to_be_bytes())
 }
 
+/// Appends an INT64, in eight bytes.
 #[tactic(auto, unfolding(crate::specs::Spelling::int_written))]
 pub fn write_i64(out: &mut Vec<u8>, number: i64) -> Result<(), AllocError>
     ensures ok { OnOk result (out.new.items ≡ out.old.items ++ int64.written number) }
@@ -105,6 +111,7 @@ pub fn write_i64(out: &mut Vec<u8>, number: i64) -> Result<(), AllocError>
     out.extend_from_slice(&number.to_be_bytes())
 }
 
+/// Appends a UINT32, in four bytes.
 pub fn write_u32(out: &mut Vec<u8>, number: u32) -> Result<(), AllocError>
     ensures ok { OnOk result (out.new.items ≡ uint32.put out.old.items number) }
     ensures err { OnErr result (out.new.items ≡ out.old.items) }
@@ -113,6 +120,7 @@ pub fn write_u32(out: &mut Vec<u8>, number: u32) -> Result<(), AllocError>
     out.extend_from_slice(&number.to_be_bytes())
 }
 
+/// Appends a BOOLEAN: 1 for true, 0 for false.
 #[tactic(auto, unfolding(crate::specs::Spelling::bool_written))]
 pub fn write_bool(out: &mut Vec<u8>, truth: bool) -> Result<(), AllocError>
     ensures ok { OnOk result (out.new.items ≡ boolean.put out.old.items truth) }

@@ -1,4 +1,4 @@
-//! Bytes in pieces that share them: a batch's bytes, and those of several batches.
+//! Bytes in pieces that share memory: a batch's bytes, and those of several batches.
 
 ghost use Rattle.std.specs.Prelude.{◌≡◌, ◌==◌, ◌^◌, ◌+◌, ◌-◌, ◌<◌, ◌≤◌, ◌++◌, [], IfOk, OnOk, OnErr, drop, length, slice_range, take};
 ghost use Rattle.std.specs.Cmp.Lexicographic.{pointwise};
@@ -17,8 +17,8 @@ use std::alloc::{AllocError, Global};
 use std::marker::Model;
 use std::ops::Range;
 
-/// Shared bytes, of which the first 16 may be the piece's own: a stored batch has its offset and its leader epoch there
-/// (https://kafka.apache.org/documentation/#recordbatch), and shares all else with the frame that brought it.
+/// Shared bytes, of which the first 16 may be the piece's own: a stored batch has its base offset, batch length and partition
+/// leader epoch there (https://kafka.apache.org/documentation/#recordbatch), and shares all else with the frame that brought it.
 pub struct Piece {
     own: Option<[u8; 16]>,
     shared: Bytes,
@@ -45,13 +45,14 @@ impl Drop for Piece {
 }
 
 impl Piece {
-    /// Shared bytes, none of which are the piece's own.
+    /// A piece of shared bytes alone, with no bytes of its own.
     pub fn of(shared: Bytes) -> Piece
         ensures { result ≡ shared }
     {
         Piece { own: None, shared }
     }
 
+    /// The number of bytes.
     pub fn len(&self) -> usize
         ensures { result ≡ length self.now }
     {
@@ -61,7 +62,7 @@ impl Piece {
         }
     }
 
-    /// The piece's first 16 bytes.
+    /// A copy of the piece's first 16 bytes, which have to be there.
     pub fn front(&self) -> [u8; 16]
         requires { 16 ≤ length self.now }
         ensures { result ≡ take 16 self.now }
@@ -72,8 +73,8 @@ impl Piece {
         }
     }
 
-    /// The same piece with other bytes in place of its first 16; it shares those after them. An error comes only where the count of
-    /// owners is full.
+    /// The same bytes but for the first 16, which `own` replaces; the piece shares the others. An error comes only where the
+    /// count of owners is full.
     pub fn with_front(&self, own: [u8; 16]) -> Result<Piece, AllocError>
         requires { 16 ≤ length self.now }
         ensures { IfOk result (λ p. p ≡ own ++ drop 16 self.now) }
@@ -85,7 +86,8 @@ impl Piece {
         })
     }
 
-    /// A part of the bytes after the first 16, which isn't copied. It is refused only where the count of owners is full.
+    /// The bytes of this range as shared bytes, without a copy. The range counts from the piece's first byte, starts at 16 or
+    /// after it, and ends within the piece. An error comes only where the count of owners is full.
     pub fn slice(&self, range: Range<usize>) -> Result<Bytes, AllocError>
         requires start { (16 ≤ range.start) × (range.start ≤ range.end) }
         requires end { range.end ≤ length self.now }
@@ -97,7 +99,7 @@ impl Piece {
         }
     }
 
-    /// Appends the bytes to what is there. A refusal leaves that as it was.
+    /// Appends the bytes to `out`. An error is an allocation failure, and leaves `out` as it was.
     pub fn push_to(&self, out: &mut Vec<u8>) -> Result<(), AllocError>
         ensures ok { OnOk result (out.new.items ≡ out.old.items ++ self.now) }
         ensures err { OnErr result (out.new.items ≡ out.old.items) }
@@ -113,7 +115,7 @@ impl Piece {
         rest
     }
 
-    /// The bytes, as two runs: the piece's own, which are few, and those that it shares.
+    /// Borrows the bytes as two runs, one after the other: the piece's own 16 (or none), and those that it shares.
     pub fn runs(&self) -> (&[u8], &[u8])
         ensures { result.0.now ++ result.1.now ≡ self.now }
     {
@@ -124,7 +126,7 @@ impl Piece {
     }
 }
 
-/// The first 16 of these bytes.
+/// The first 16 of these bytes, which have to be there.
 fn first_of(bytes: &[u8]) -> [u8; 16]
     requires { 16 ≤ length bytes.now }
     ensures { result ≡ take 16 bytes.now }
@@ -145,7 +147,8 @@ impl Clone for Piece {
     }
 }
 
-/// Pieces in order, seen as the bytes of all, one after the other.
+/// Pieces in order, which contracts see as the bytes of all of them, one after the other. Two are equal where these bytes are,
+/// however they are cut into pieces.
 pub struct Pieces {
     pieces: Vec<Piece>,
     len: usize,
@@ -182,7 +185,7 @@ impl Pieces {
         }
     }
 
-    /// Shared bytes alone.
+    /// One piece, of these shared bytes. An error is an allocation failure.
     pub fn of(alloc: Global, bytes: Bytes) -> Result<Pieces, AllocError>
         ensures { IfOk result (λ p. p ≡ bytes) }
     {
@@ -192,14 +195,15 @@ impl Pieces {
         Ok(Pieces { pieces, len })
     }
 
+    /// The number of bytes in all pieces.
     pub fn len(&self) -> usize
         ensures { result ≡ length self.now }
     {
         self.len
     }
 
-    /// Puts a piece after the others; the first takes memory for itself alone. It is refused too where `usize` can't count so
-    /// many bytes.
+    /// Appends a piece. The first one takes memory for one piece only. An error is an allocation failure, or more bytes in all
+    /// than a `usize` counts; it leaves the pieces as they were.
     #[tactic(auto, using(crate::proofs::Runs::concat_more, crate::proofs::Runs::length_more))]
     pub fn push(&mut self, piece: Piece) -> Result<(), AllocError>
         ensures ok { OnOk result (self.new ≡ self.old ++ piece) }
@@ -216,7 +220,7 @@ impl Pieces {
         Ok(())
     }
 
-    /// Appends the bytes to what is there. A refusal leaves that as it was.
+    /// Appends all the bytes to `out`. An error is an allocation failure, and leaves `out` as it was.
     pub fn push_to(&self, out: &mut Vec<u8>) -> Result<(), AllocError>
         ensures ok { OnOk result (out.new.items ≡ out.old.items ++ self.now) }
         ensures err { OnErr result (out.new.items ≡ out.old.items) }
@@ -238,7 +242,7 @@ impl Pieces {
         self.pieces.as_slice()
     }
 
-    /// A copy of all the bytes, in one part.
+    /// A copy of all the bytes, one after the other. An error is an allocation failure.
     pub fn to_bytes(&self, alloc: Global) -> Result<Bytes, AllocError>
         ensures { IfOk result (λ b. b ≡ self.now) }
     {
@@ -248,8 +252,8 @@ impl Pieces {
     }
 }
 
-/// What is left of pieces that are read from left to right: a run of bytes, the next run, and the pieces after them. Only at
-/// the end is the run empty.
+/// What is left of pieces that are read from left to right: the run of bytes to read first, the next run, and the pieces after
+/// them. The first run is empty only where nothing is left.
 #[derive(Drop)]
 struct Unread<'a> {
     run: &'a [u8],
@@ -269,7 +273,7 @@ impl<'a> Model for Unread<'a> {
 }
 
 impl<'a> Unread<'a> {
-    /// All of these runs and pieces.
+    /// These runs and pieces as what is left: empty runs at the front are passed over.
     fn of(run: &'a [u8], next: &'a [u8], pieces: &'a [Piece]) -> Unread<'a>
         ensures { result ≡ run.now ++ (next.now ++ concat pieces.now) }
     {
@@ -293,7 +297,7 @@ impl<'a> Unread<'a> {
     }
 }
 
-/// Whether two runs begin with the same bytes, so many of them.
+/// Whether the first `count` bytes of two runs are equal. Both runs have to have so many.
 fn begin_alike(left: &[u8], right: &[u8], count: usize) -> bool
     requires { (count ≤ length left.now) × (count ≤ length right.now) }
     ensures { result ≡ pointwise ◌==◌ (take count left.now) (take count right.now) }
@@ -331,7 +335,7 @@ impl Eq for Pieces {
 }
 
 impl<'a> Cursor<'a> {
-    /// BYTES, their number in four bytes and then they, as one piece.
+    /// Reads BYTES, as `read_bytes` does, into one piece.
     pub fn read_pieces(&mut self, alloc: Global) -> Result<Pieces, ReadFault>
         ensures { Reads (bytes.reading self.old) result self.new }
     {
@@ -340,7 +344,8 @@ impl<'a> Cursor<'a> {
     }
 }
 
-/// BYTES: their number in four bytes, and then they.
+/// Appends the bytes as BYTES: their number in four bytes (INT32), and then all of them. `TooLong` above 2^31 - 1 bytes. An error
+/// leaves `out` as it was.
 #[tactic(auto, unfolding(crate::specs::Spelling::after_count_fits))]
 pub fn write_pieces(out: &mut Vec<u8>, value: &Pieces) -> Result<(), WriteFault>
     ensures spelled { Puts bytes value.now out.old.items result out.new.items }
@@ -356,8 +361,8 @@ pub fn write_pieces(out: &mut Vec<u8>, value: &Pieces) -> Result<(), WriteFault>
     Ok(rest?)
 }
 
-/// How many of `budget` bytes these pieces leave, written as BYTES. None where they are too many to be spelled, or more than
-/// the budget.
+/// How many of `budget` bytes are left after the pieces as BYTES. None where they need more, or are too many for their length
+/// field.
 pub fn deduct_pieces(value: &Pieces, budget: usize) -> Option<usize>
     ensures { result ≡ bytes.left value.now budget }
 {

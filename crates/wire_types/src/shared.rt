@@ -6,7 +6,7 @@ use std::alloc::{AllocError, AllocFailed, Global};
 use std::marker::Model;
 use std::sync::Arc;
 
-/// A value behind an `Arc`, seen as the value.
+/// A value in an `Arc`, which contracts see as the value.
 #[derive(Debug)]
 pub struct Shared<T> {
     arc: Arc<T>,
@@ -25,7 +25,7 @@ impl<T: Drop> Drop for Shared<T> {
 }
 
 impl<T> Shared<T> {
-    /// The first owner of a value; where memory is refused, the value is handed back.
+    /// The first owner of a value. An error is an allocation failure, and hands the value back.
     pub fn new(alloc: Global, value: T) -> Result<Shared<T>, AllocFailed<T>>
         ensures ok { IfOk result (λ s. s ≡ value) }
         ensures err { IfErr result (λ e. e.value ≡ value) }
@@ -35,7 +35,7 @@ impl<T> Shared<T> {
         })
     }
 
-    /// One more owner; it is refused only where the count of owners is full.
+    /// One more owner of the same value. An error comes only where the count of owners is full.
     pub fn share(&self) -> Result<Shared<T>, AllocError>
         ensures { IfOk result (λ s. s ≡ self.now) }
     {
@@ -44,7 +44,7 @@ impl<T> Shared<T> {
         })
     }
 
-    /// The value that all its owners share.
+    /// Borrows the value that all its owners share.
     pub fn value(&self) -> &T
         ensures { result.now ≡ self.now }
     {

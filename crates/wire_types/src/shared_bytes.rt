@@ -7,7 +7,7 @@ use std::alloc::{AllocError, Global};
 use std::marker::Model;
 use std::ops::Range;
 
-/// A part of bytes that its owners share: a copy of it, or a part of it, is one more owner of the same bytes.
+/// A part of bytes that several owners share. A clone or a slice isn't a copy, but one more owner of the same bytes.
 #[derive(Debug, Clone)]
 pub struct Bytes {
     part: Part,
@@ -28,14 +28,14 @@ impl Drop for Bytes {
 }
 
 impl Bytes {
-    /// No bytes. It takes no memory.
+    /// No bytes, which take no memory.
     pub fn new() -> Bytes
         ensures { result ≡ [] }
     {
         Bytes { part: Part::new() }
     }
 
-    /// The bytes of a vector, which aren't copied.
+    /// Shares the bytes of a vector, without copying them. An error is an allocation failure.
     pub fn from_vec(bytes: Vec<u8>) -> Result<Bytes, AllocError>
         ensures { IfOk result (λ b. b ≡ bytes.items) }
     {
@@ -44,7 +44,7 @@ impl Bytes {
         })
     }
 
-    /// A copy of bytes.
+    /// Copies bytes into shared ones. An error is an allocation failure.
     pub fn copy_from_slice(alloc: Global, bytes: &[u8]) -> Result<Bytes, AllocError>
         ensures { IfOk result (λ b. b ≡ bytes.now) }
     {
@@ -53,7 +53,7 @@ impl Bytes {
         })
     }
 
-    /// The same bytes, as the crate `bytes` has them.
+    /// The same bytes as the type of the crate `bytes`.
     pub(crate) fn into_part(self) -> Part
         ensures { result ≡ self }
     {
@@ -79,8 +79,8 @@ impl Bytes {
         self.part.is_empty()
     }
 
-    /// A part of these bytes, which isn't copied; it is refused only where the count of owners is full. Where no byte is in
-    /// the part, it is no owner.
+    /// The bytes of this range, without a copy. An error comes only where the count of owners is full. An empty slice is no
+    /// owner, and so keeps no memory alive.
     pub fn slice(&self, range: Range<usize>) -> Result<Bytes, AllocError>
         requires { (range.start ≤ range.end) × (range.end ≤ length self.now) }
         ensures { IfOk result (λ b. b ≡ slice_range self.now range.start range.end) }

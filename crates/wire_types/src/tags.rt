@@ -1,4 +1,4 @@
-//! Tagged sections, whose fields are skipped and which are written empty.
+//! Tagged fields (KIP-482), which are skipped where they are read and of which none are written.
 
 ghost use Rattle.std.specs.Io.{StartsWith};
 ghost use Rattle.std.specs.Prelude.{◌≡◌, ◌+◌, ◌<◌, ◌^◌, OnOk, OnErr, Ok, Err};
@@ -12,7 +12,8 @@ use crate::varints::write_uvarint;
 use std::alloc::AllocError;
 
 impl<'a> Cursor<'a> {
-    /// Reads past one tagged field (KIP-482): its tag, its size and so many bytes.
+    /// Reads past one tagged field: its tag, its size, and as many bytes as its size tells. Any tag is taken, and tags needn't
+    /// rise.
     #[tactic(auto, unfolding(crate::specs::Reading::after_count_at, crate::specs::Reading::front_at))]
     fn skip_field(&mut self) -> Result<(), Malformed>
         ensures { Takes (skipped_if_found (field.reading self.old)) result self.new }
@@ -23,7 +24,7 @@ impl<'a> Cursor<'a> {
         Ok(())
     }
 
-    /// Reads past `count` tagged fields (KIP-482).
+    /// Reads past `count` tagged fields, without the number before them.
     fn skip_fields(&mut self, count: u32) -> Result<(), Malformed>
         ensures { Takes (skipped_if_found (many_at field.reading count self.old)) result self.new }
     {
@@ -33,7 +34,8 @@ impl<'a> Cursor<'a> {
         Ok(())
     }
 
-    /// Reads past a section of tagged fields (KIP-482), whatever they hold.
+    /// Reads past a section of tagged fields: their number as an UNSIGNED_VARINT, and the fields, whatever they hold.
+    /// `Malformed::Short` for a number above that of the bytes left.
     #[tactic(auto, unfolding(crate::specs::Reading::after_count_at, crate::specs::Reading::items_at))]
     pub fn skip_tags(&mut self) -> Result<(), Malformed>
         ensures { Takes (tags.reading self.old) result self.new }
@@ -46,7 +48,7 @@ impl<'a> Cursor<'a> {
     }
 }
 
-/// Appends a section of tagged fields (KIP-482) that holds none.
+/// Appends an empty section of tagged fields, which is one byte.
 #[tactic(auto, unfolding(crate::specs::Spelling::after_count_written, crate::specs::Spelling::many_written))]
 pub fn write_no_tags(out: &mut Vec<u8>) -> Result<(), AllocError>
     ensures ok { OnOk result (out.new.items ≡ tags.put out.old.items tt) }

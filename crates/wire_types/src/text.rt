@@ -7,7 +7,7 @@ use bytes::ByteStr;
 use std::alloc::{AllocError, Global};
 use std::marker::Model;
 
-/// A text, seen as its bytes. A copy of it is one more owner of the same bytes.
+/// A UTF-8 text, which contracts see as its bytes. A clone isn't a copy, but one more owner of the same bytes.
 #[derive(Debug, Clone)]
 pub struct Text {
     shared: ByteStr,
@@ -28,7 +28,7 @@ impl Drop for Text {
 }
 
 impl Text {
-    /// A copy of a text.
+    /// Copies a text. An error is an allocation failure.
     pub fn of(alloc: Global, text: &str) -> Result<Text, AllocError>
         ensures { IfOk result (λ t. t ≡ text.now) }
     {
@@ -37,7 +37,7 @@ impl Text {
         })
     }
 
-    /// The text of a string, which isn't copied.
+    /// Takes over the text of a string, without copying it. An error is an allocation failure.
     pub fn from_string(string: String) -> Result<Text, AllocError>
         ensures { IfOk result (λ t. t ≡ string_bytes string) }
     {
@@ -46,7 +46,7 @@ impl Text {
         })
     }
 
-    /// The text that shared bytes are, which aren't copied, if they are one.
+    /// Shared bytes as a text, without copying them; None where they aren't UTF-8.
     pub fn from_shared(bytes: Bytes) -> Option<Text>
         ensures { MatchOption result (¬ (IsUtf8 bytes)) (λ t. (t ≡ bytes) × IsUtf8 bytes) }
     {
@@ -56,7 +56,7 @@ impl Text {
         }
     }
 
-    /// A copy as a string of its own.
+    /// Copies the text into a string of its own. An error is an allocation failure.
     pub fn to_owned(&self, alloc: Global) -> Result<String, AllocError>
         ensures { IfOk result (λ string. string_bytes string ≡ self.now) }
     {
@@ -75,6 +75,7 @@ impl Text {
         self.shared.as_bytes().as_slice()
     }
 
+    /// The length in bytes.
     pub fn len(&self) -> usize
         ensures { result ≡ length self.now }
     {

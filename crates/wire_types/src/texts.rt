@@ -19,8 +19,8 @@ use crate::wire::Wire;
 use std::alloc::Global;
 
 impl<'a> Cursor<'a> {
-    /// The next `len` bytes as a text, a part of the shared bytes, or a copy where the reader has none. Bytes that aren't UTF-8 are
-    /// malformed.
+    /// Reads the next `len` bytes as a text: a part of the shared bytes, or a copy where the cursor has none. `Malformed::Short`
+    /// where fewer are left, `Malformed::Utf8` where they aren't UTF-8.
     #[tactic(auto, unfolding(crate::specs::Reading::utf8_at))]
     fn read_utf8(&mut self, alloc: Global, len: usize) -> Result<Text, ReadFault>
         ensures { Reads (utf8_at len self.old) result self.new }
@@ -32,7 +32,8 @@ impl<'a> Cursor<'a> {
         }
     }
 
-    /// STRING of the protocol guide: a length in two bytes (INT16), and a text of so many bytes.
+    /// Reads a STRING of the protocol guide: a length in two bytes (INT16), and a text of so many bytes. `Malformed::Range` for a
+    /// negative length; else as `read_utf8`.
     #[tactic(auto, unfolding(crate::specs::Reading::after_count_at))]
     pub fn read_string(&mut self, alloc: Global) -> Result<Text, ReadFault>
         ensures { Reads (string.reading self.old) result self.new }
@@ -41,7 +42,7 @@ impl<'a> Cursor<'a> {
         self.read_utf8(alloc, len as usize)
     }
 
-    /// NULLABLE_STRING: None where the length is -1.
+    /// Reads a NULLABLE_STRING: as `read_string`, but None where the length is -1.
     #[tactic(auto, unfolding(crate::specs::Reading::after_null_count_at, crate::specs::Reading::null_or))]
     pub fn read_nullable(&mut self, alloc: Global) -> Result<Option<Text>, ReadFault>
         ensures { Reads (nullable_string.reading self.old) result self.new }
@@ -52,7 +53,8 @@ impl<'a> Cursor<'a> {
         }
     }
 
-    /// COMPACT_STRING: a length and one as an UNSIGNED_VARINT, and a text of so many bytes.
+    /// Reads a COMPACT_STRING: the length plus one as an UNSIGNED_VARINT, and a text of so many bytes. `Malformed::Range` where
+    /// the number is 0 (null); else as `read_utf8`.
     #[tactic(auto, using(crate::proofs::Announced::content_after, crate::proofs::Announced::utf8_refused))]
     pub fn read_compact_string(&mut self, alloc: Global) -> Result<Text, ReadFault>
         ensures { Reads (compact_string.reading self.old) result self.new }
@@ -61,7 +63,7 @@ impl<'a> Cursor<'a> {
         self.read_utf8(alloc, len as usize)
     }
 
-    /// COMPACT_NULLABLE_STRING: None where the first number is 0.
+    /// Reads a COMPACT_NULLABLE_STRING: as `read_compact_string`, but None where the first number is 0.
     #[tactic(auto, unfolding(crate::specs::Reading::after_null_count_at, crate::specs::Reading::null_or))]
     pub fn read_compact_nullable(&mut self, alloc: Global) -> Result<Option<Text>, ReadFault>
         ensures { Reads (compact_nullable_string.reading self.old) result self.new }
@@ -73,7 +75,7 @@ impl<'a> Cursor<'a> {
     }
 }
 
-/// Appends a STRING.
+/// Appends a STRING. `TooLong` above 32767 bytes. An error leaves `out` as it was.
 #[tactic(auto, unfolding(crate::specs::Spelling::after_count_fits))]
 pub fn write_string(out: &mut Vec<u8>, value: &Text) -> Result<(), WriteFault>
     ensures spelled { Puts string value.now out.old.items result out.new.items }
@@ -89,7 +91,7 @@ pub fn write_string(out: &mut Vec<u8>, value: &Text) -> Result<(), WriteFault>
     Ok(rest?)
 }
 
-/// Appends a NULLABLE_STRING.
+/// Appends a NULLABLE_STRING: as `write_string`, but None as the length -1.
 #[tactic(auto, unfolding(crate::specs::Spelling::after_count_fits, crate::specs::Spelling::after_null_count_fits, crate::specs::Spelling::after_null_count_put, crate::specs::Spelling::null_count_fits, crate::specs::Spelling::compact_null_count_fits))]
 pub fn write_nullable(out: &mut Vec<u8>, value: &Option<Text>) -> Result<(), WriteFault>
     ensures spelled { Puts nullable_string value.now out.old.items result out.new.items }
@@ -103,7 +105,7 @@ pub fn write_nullable(out: &mut Vec<u8>, value: &Option<Text>) -> Result<(), Wri
     Ok(())
 }
 
-/// Appends a COMPACT_STRING.
+/// Appends a COMPACT_STRING. `TooLong` above 2^32 - 2 bytes. An error leaves `out` as it was.
 #[tactic(auto, unfolding(crate::specs::Spelling::after_count_fits))]
 pub fn write_compact_string(out: &mut Vec<u8>, value: &Text) -> Result<(), WriteFault>
     ensures spelled { Puts compact_string value.now out.old.items result out.new.items }
@@ -119,7 +121,7 @@ pub fn write_compact_string(out: &mut Vec<u8>, value: &Text) -> Result<(), Write
     Ok(rest?)
 }
 
-/// Appends a COMPACT_NULLABLE_STRING.
+/// Appends a COMPACT_NULLABLE_STRING: as `write_compact_string`, but None as the number 0.
 #[tactic(auto, unfolding(crate::specs::Spelling::after_count_fits, crate::specs::Spelling::after_null_count_fits, crate::specs::Spelling::after_null_count_put, crate::specs::Spelling::null_count_fits, crate::specs::Spelling::compact_null_count_fits))]
 pub fn write_compact_nullable(out: &mut Vec<u8>, value: &Option<Text>) -> Result<(), WriteFault>
     ensures spelled { Puts compact_nullable_string value.now out.old.items result out.new.items }
@@ -133,7 +135,7 @@ pub fn write_compact_nullable(out: &mut Vec<u8>, value: &Option<Text>) -> Result
     Ok(())
 }
 
-/// How many of `budget` bytes a STRING leaves. None where it is too long to be spelled, or longer than the budget.
+/// How many of `budget` bytes are left after the text as a STRING. None where it needs more, or is too long for its length field.
 pub fn deduct_string(value: &Text, budget: usize) -> Option<usize>
     ensures { result ≡ string.left value.now budget }
 {
@@ -141,7 +143,7 @@ pub fn deduct_string(value: &Text, budget: usize) -> Option<usize>
     deduct(value.len(), budget)
 }
 
-/// How many of `budget` bytes a NULLABLE_STRING leaves. None where it is too long to be spelled, or longer than the budget.
+/// As `deduct_string`, but for a NULLABLE_STRING: a null takes two bytes.
 #[tactic(auto, unfolding(crate::specs::Spelling::after_null_count_left, crate::specs::Spelling::null_count_fits))]
 pub fn deduct_nullable(value: &Option<Text>, budget: usize) -> Option<usize>
     ensures { result ≡ nullable_string.left value.now budget }
@@ -152,7 +154,8 @@ pub fn deduct_nullable(value: &Option<Text>, budget: usize) -> Option<usize>
     }
 }
 
-/// How many of `budget` bytes a COMPACT_STRING leaves. None where it is too long to be spelled, or longer than the budget.
+/// How many of `budget` bytes are left after the text as a COMPACT_STRING. None where it needs more, or is too long for its
+/// length field.
 pub fn deduct_compact_string(value: &Text, budget: usize) -> Option<usize>
     ensures { result ≡ compact_string.left value.now budget }
 {
@@ -160,8 +163,7 @@ pub fn deduct_compact_string(value: &Text, budget: usize) -> Option<usize>
     deduct(value.len(), budget)
 }
 
-/// How many of `budget` bytes a COMPACT_NULLABLE_STRING leaves. None where it is too long to be spelled, or longer than the
-/// budget.
+/// As `deduct_compact_string`, but for a COMPACT_NULLABLE_STRING: a null takes one byte.
 #[tactic(auto, unfolding(crate::specs::Spelling::after_null_count_left, crate::specs::Spelling::null_count_fits, crate::specs::Spelling::compact_null_count_fits, crate::specs::Spelling::compact_null_count_written, crate::specs::Spelling::varint_written))]
 pub fn deduct_compact_nullable(value: &Option<Text>, budget: usize) -> Option<usize>
     ensures { result ≡ compact_nullable_string.left value.now budget }

@@ -1,4 +1,4 @@
-//! A topic with what a message says of its partitions.
+//! A topic with what a message holds for each of its partitions.
 
 use crate::arrays::{deduct_array, read_array, write_array};
 use crate::cursor::Cursor;
@@ -9,7 +9,8 @@ use crate::texts::{deduct_string, write_string};
 use crate::wire::Wire;
 use std::alloc::Global;
 
-/// A topic's name, and something for each of its partitions.
+/// A topic's name, and a value of the message's own for each partition that it names. As `Wire`: a STRING and an ARRAY, as in the
+/// versions that aren't flexible.
 #[derive(Clone, Debug, Drop, PartialEq, Eq)]
 pub struct Topic<P> {
     pub name: Text,

@@ -1,4 +1,5 @@
-//! Numbers of variable length: UNSIGNED_VARINT, VARINT, VARLONG.
+//! Numbers of variable length: UNSIGNED_VARINT, VARINT, VARLONG. A read takes longer forms than needed too; a write gives the
+//! shortest. A write fails on an allocation failure only, and leaves the bytes as they were.
 
 ghost use Rattle.std.specs.Io.{StartsWith};
 ghost use Rattle.std.specs.Prelude.{◌≡◌, ◌+◌, ◌<◌, ◌≤◌, ◌++◌, ◌^◌, length, OnOk, OnErr, IfOk, Ok, Err};
@@ -13,8 +14,9 @@ use crate::fault::Malformed;
 use std::alloc::AllocError;
 
 impl<'a> Cursor<'a> {
-    /// A number of variable length, seven bits a byte and the lowest first: `more` bytes may follow the first, and the last of them
-    /// all is at most `top`. A longer or larger one is malformed.
+    /// Reads a number of variable length byte by byte, seven bits in each and the lowest first. At most `more` bytes may follow
+    /// the first; of a number of all these bytes the last is at most `top`. `Malformed::Range` for a longer or larger number,
+    /// `Malformed::Short` where the bytes end before it does.
     #[tactic(auto, unfolding(crate::specs::Reading::varint_at, crate::specs::Reading::varint_limit))]
     fn read_varint_slowly(&mut self, more: u32, top: u8) -> Result<u64, Malformed>
         requires { varint_limit more top ≤ 2 ^ 64 }
@@ -36,8 +38,8 @@ impl<'a> Cursor<'a> {
         Ok((first - 128) as u64 + 128 * high)
     }
 
-    /// Reads what `read_varint_slowly` does, where `more` is at least two: most numbers have one byte or two, and are read with no
-    /// call for each byte.
+    /// As `read_varint_slowly`, for `more` of two at least, but with no call for each byte of a number of one or two bytes, as
+    /// most are.
     #[inline(always)]
     #[tactic(auto, using(crate::proofs::FirstBytes::first_bytes))]
     fn read_varint_within(&mut self, more: u32, top: u8) -> Result<u64, Malformed>
@@ -58,7 +60,8 @@ impl<'a> Cursor<'a> {
         Ok((first - 128) as u64 + 128 * ((second - 128) as u64 + 128 * high))
     }
 
-    /// UNSIGNED_VARINT of the protocol guide: an unsigned number of 32 bits in up to five bytes.
+    /// Reads an UNSIGNED_VARINT of the protocol guide: an unsigned number of 32 bits in up to five bytes. `Malformed::Range` for
+    /// a longer or larger one.
     #[tactic(auto, unfolding(crate::specs::Reading::varint_limit))]
     pub fn read_uvarint(&mut self) -> Result<u32, Malformed>
         ensures { Takes (uvarint.reading self.old) result self.new }
@@ -66,7 +69,7 @@ impl<'a> Cursor<'a> {
         Ok(self.read_varint_within(4, 15)? as u32)
     }
 
-    /// An unsigned number of 64 bits in up to ten bytes.
+    /// Reads an unsigned number of 64 bits in up to ten bytes. `Malformed::Range` for a longer or larger one.
     #[tactic(auto, unfolding(crate::specs::Reading::varint_limit))]
     fn read_uvarlong(&mut self) -> Result<u64, Malformed>
         ensures { Takes (uvarlong.reading self.old) result self.new }
@@ -74,7 +77,8 @@ impl<'a> Cursor<'a> {
         self.read_varint_within(9, 1)
     }
 
-    /// VARINT: a signed number of 32 bits in zigzag form, in up to five bytes.
+    /// Reads a VARINT: a signed number of 32 bits in zigzag form, in up to five bytes. `Malformed::Range` for a longer or larger
+    /// one.
     pub fn read_varint(&mut self) -> Result<i32, Malformed>
         ensures { Takes (varint.reading self.old) result self.new }
     {
@@ -83,7 +87,8 @@ impl<'a> Cursor<'a> {
         Ok(if number % 2 == 0 { half } else { -half - 1 })
     }
 
-    /// VARLONG: a signed number of 64 bits in zigzag form, in up to ten bytes.
+    /// Reads a VARLONG: a signed number of 64 bits in zigzag form, in up to ten bytes. `Malformed::Range` for a longer or larger
+    /// one.
     pub fn read_varlong(&mut self) -> Result<i64, Malformed>
         ensures { Takes (varlong.reading self.old) result self.new }
     {
@@ -93,7 +98,8 @@ impl<'a> Cursor<'a> {
     }
 }
 
-/// Appends a number of variable length in its shortest form: `more` bytes may follow the first.
+/// Appends a number of variable length in its shortest form. At most `more` bytes may follow the first, and `number` has to fit:
+/// with all these bytes the last one is at most `top`.
 #[tactic(auto, unfolding(crate::specs::Spelling::varint_written, crate::specs::Reading::varint_limit))]
 fn write_varint_within(out: &mut Vec<u8>, more: u32, top: u8, number: u64) -> Result<(), AllocError>
     requires { number < varint_limit more top }
@@ -115,7 +121,7 @@ fn write_varint_within(out: &mut Vec<u8>, more: u32, top: u8, number: u64) -> Re
     }
 }
 
-/// Appends an UNSIGNED_VARINT.
+/// Appends an UNSIGNED_VARINT, of up to five bytes.
 #[tactic(auto, unfolding(crate::specs::Reading::varint_limit))]
 pub fn write_uvarint(out: &mut Vec<u8>, number: u32) -> Result<(), AllocError>
     ensures ok { OnOk result (out.new.items ≡ uvarint.put out.old.items number) }
@@ -125,7 +131,7 @@ pub fn write_uvarint(out: &mut Vec<u8>, number: u32) -> Result<(), AllocError>
     write_varint_within(out, 4, 15, number as u64)
 }
 
-/// Appends an unsigned number of 64 bits, in up to ten bytes.
+/// Appends an unsigned number of 64 bits as a number of variable length, of up to ten bytes.
 #[tactic(auto, unfolding(crate::specs::Reading::varint_limit))]
 fn write_uvarlong(out: &mut Vec<u8>, number: u64) -> Result<(), AllocError>
     ensures ok { OnOk result (out.new.items ≡ uvarlong.put out.old.items number) }
@@ -157,7 +163,7 @@ fn long_zigzag(number: i64) -> u64
     }
 }
 
-/// Appends a VARINT.
+/// Appends a VARINT, of up to five bytes.
 pub fn write_varint(out: &mut Vec<u8>, number: i32) -> Result<(), AllocError>
     ensures ok { OnOk result (out.new.items ≡ varint.put out.old.items number) }
     ensures err { OnErr result (out.new.items ≡ out.old.items) }
@@ -166,7 +172,7 @@ pub fn write_varint(out: &mut Vec<u8>, number: i32) -> Result<(), AllocError>
     write_uvarint(out, zigzag(number))
 }
 
-/// Appends a VARLONG.
+/// Appends a VARLONG, of up to ten bytes.
 pub fn write_varlong(out: &mut Vec<u8>, number: i64) -> Result<(), AllocError>
     ensures ok { OnOk result (out.new.items ≡ varlong.put out.old.items number) }
     ensures err { OnErr result (out.new.items ≡ out.old.items) }
@@ -175,7 +181,7 @@ pub fn write_varlong(out: &mut Vec<u8>, number: i64) -> Result<(), AllocError>
     write_uvarlong(out, long_zigzag(number))
 }
 
-/// How many bytes a number of variable length takes in its shortest form, where `more` may follow the first.
+/// How many bytes a number of variable length takes in its shortest form, where at most `more` may follow the first.
 #[tactic(auto, unfolding(crate::specs::Spelling::varint_written))]
 pub(crate) fn varint_len(more: u32, number: u64) -> usize
     ensures { (result ≡ length (varint_written more number)) × (result ≤ more + 1) }
@@ -186,14 +192,14 @@ pub(crate) fn varint_len(more: u32, number: u64) -> usize
     varint_len(more - 1, number / 128) + 1
 }
 
-/// How many of `budget` bytes a VARINT leaves. None where it has more.
+/// How many of `budget` bytes are left after a VARINT; None where `budget` is less than its size.
 pub fn deduct_varint(number: i32, budget: usize) -> Option<usize>
     ensures { result ≡ varint.left number budget }
 {
     deduct(varint_len(4, zigzag(number) as u64), budget)
 }
 
-/// How many of `budget` bytes a VARLONG leaves. None where it has more.
+/// How many of `budget` bytes are left after a VARLONG; None where `budget` is less than its size.
 pub fn deduct_varlong(number: i64, budget: usize) -> Option<usize>
     ensures { result ≡ varlong.left number budget }
 {

@@ -1,4 +1,4 @@
-//! Whether a caller may write to any topic at all.
+//! Whether a principal may write to any topic at all (KIP-679).
 
 ghost use Rattle.std.specs.Prelude.{◌≡◌, ◌==◌, ◌&&◌, List, filter as kept};
 ghost use Rattle.std.specs.List.{list_any, AllByRecursion};
@@ -32,7 +32,8 @@ fn is_star(binding: &Binding) -> bool
     binding.pattern == Pattern::Literal && binding.name.as_str() == ANY_NAME
 }
 
-/// Whether the binding is literal, and another literal binding of the same name denies WRITE to this principal at this host.
+/// Whether the binding is literal, and a literal binding of the same name denies WRITE to this principal at this host.
+/// `names` holds the literal bindings of topics.
 fn own_name_bars(names: &Names, binding: &Binding, who: &Text, host: &Text) -> bool
     ensures { result
         ≡ ((pattern_number binding.now.pattern == pattern_number Literal) && list_any
@@ -42,7 +43,8 @@ fn own_name_bars(names: &Names, binding: &Binding, who: &Text, host: &Text) -> b
     binding.pattern == Pattern::Literal && bar_write(names.held(binding.name.as_str()), who, host)
 }
 
-/// Whether a prefixed binding that matches this name denies WRITE to this principal at this host.
+/// Whether a prefixed binding that matches this name denies WRITE to this principal at this host. `names` holds the
+/// prefixed bindings of topics.
 fn prefixes_deny_write(names: &Names, name: &Text, who: &Text, host: &Text) -> bool
     ensures { (es : List Entry) → AllByRecursion IsNamed es → IsTableOf names.now Topic Prefixed es
         → result ≡ list_any (λ (e : Entry). bars_write who.now host.now e.binding)
@@ -60,8 +62,8 @@ fn prefixes_deny_write(names: &Names, name: &Text, who: &Text, host: &Text) -> b
 }
 
 impl IndexedBook {
-    /// Whether this principal at this host may WRITE to some topic: a binding allows it, and no DENY covers all names of
-    /// that binding (KIP-679, `authorizeByResourceType`).
+    /// Whether the bindings allow this principal at this host to WRITE to some topic: one allows it, and no DENY covers all
+    /// names of that binding (KIP-679, `authorizeByResourceType`). Super users aren't regarded.
     pub(crate) fn any_topic(&self, who: &Text, host: &Text) -> bool
         ensures { result ≡ any_topic self.now.entries who.now host.now }
     {
@@ -70,7 +72,8 @@ impl IndexedBook {
             || topics.prefixed.any_not_overridden(self, who, host)
     }
 
-    /// Whether the binding allows this principal at this host to WRITE, and no DENY covers all its names.
+    /// Whether the binding of topics allows this principal at this host to WRITE, and no DENY in the book covers all its
+    /// names.
     pub(crate) fn is_unbarred(&self, entry: &Numbered, who: &Text, host: &Text) -> bool
         ensures { result ≡ is_unbarred self.now.entries who.now host.now entry.now }
     {

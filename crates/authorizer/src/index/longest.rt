@@ -8,8 +8,8 @@ use crate::bucket::Bucket;
 use indexmap::IndexMap;
 use std::hash::RandomState;
 
-/// The bytes of the longest name, and how many names are as long: after one of several was taken out it is known without
-/// another look at the table. Both are 0 where there is no name.
+/// The bytes of a table's longest name, and how many names are that long. Both are 0 if there is no name. With the count,
+/// the length is still known after one of several longest names was removed.
 #[derive(Clone, Copy)]
 pub struct Longest {
     pub(crate) bytes: usize,
@@ -17,14 +17,14 @@ pub struct Longest {
 }
 
 impl Longest {
-    /// What holds for a table without names.
+    /// The value for a table without names: 0 bytes, 0 names.
     pub(crate) fn none() -> Longest
         ensures { IsLongest result [] }
     {
         Longest { bytes: 0, names: 0 }
     }
 
-    /// The longest name of a table, found by a look at all its names.
+    /// How long a table's longest name is and how many names are that long, found by a look at all its names.
     pub(crate) fn of(buckets: &IndexMap<String, Bucket, RandomState>) -> Longest
         ensures { IsLongest result (lengths (keys buckets.now)) }
     {
@@ -47,8 +47,8 @@ impl Longest {
         }
     }
 
-    /// Counts out a name of so many bytes. Tells whether the longest is still known: it isn't where that name was the only
-    /// one as long, and then nothing is changed.
+    /// Takes a name of so many bytes out of the count. Returns whether the longest is still known; `false` means that it
+    /// was the only one of that length, and that nothing changed: the caller has to look through the table (`of`).
     pub(crate) fn lose(&mut self, bytes: usize) -> bool
         ensures left { (ns left : List ℕ)
             → ((p : ℕ → Bool) → count_by p left + cond (p bytes) 1 0 ≡ count_by p ns)

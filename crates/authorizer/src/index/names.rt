@@ -1,4 +1,4 @@
-//! The bindings of one kind and one pattern, by their names.
+//! The bindings of one kind and one pattern type, by their names.
 
 ghost use Rattle.std.specs.Prelude.{◌≡◌, ◌+◌, ◌^◌, ◌<◌, [], ◌∷◌, ◌++◌, ◌&&◌, List, ℕ, length, Some, None, if◌then◌else◌, OnOk, OnErr};
 ghost use Rattle.std.specs.HashMap.{get_by_text, keys};
@@ -22,11 +22,11 @@ use std::hash::RandomState;
 use std::marker::Model;
 use wire_types::{Shared, Text};
 
-/// The name that stands for all of them.
+/// The resource name that a literal binding has to match every name.
 pub(crate) const ANY_NAME: &str = "*";
 
-/// Each name with its bindings in creation order, seen as a list of both. A name without bindings isn't in the table.
-/// It knows how long the longest name is: a longer one isn't even hashed when it is looked up.
+/// Each name with its bindings in creation order. A name without bindings isn't in the table. The table keeps the length of
+/// its longest name: a longer one is looked up without being hashed.
 #[derive(Drop)]
 pub struct Names {
     buckets: IndexMap<String, Bucket, RandomState>,
@@ -65,7 +65,8 @@ impl Names {
         self.longest.bytes
     }
 
-    /// The bindings of this name, in creation order. This look-up isn't counted; verdicts use `look_up`.
+    /// The bindings of this name, in creation order; empty if there are none. This look-up isn't counted; verdicts use
+    /// `look_up`.
     pub(super) fn held(&self, name: &str) -> &[Shared<Numbered>]
         ensures { result.now ≡ bindings_under self.now name.now }
     {
@@ -78,7 +79,7 @@ impl Names {
         }
     }
 
-    /// The bindings of this name, in creation order. The look-up is counted in `looked`.
+    /// The bindings of this name, in creation order; empty if there are none. Counts the look-up in `looked`.
     pub(crate) fn look_up(&self, name: &str, looked: &mut u64) -> &[Shared<Numbered>]
         requires { looked.old + 1 < 2 ^ 64 }
         ensures held { result.now ≡ bindings_under self.now name.now }
@@ -88,8 +89,8 @@ impl Names {
         self.held(name)
     }
 
-    /// Whether some binding in the table allows this principal at this host to WRITE, and no DENY of the book covers all its
-    /// names.
+    /// Whether some binding in the table allows this principal at this host to WRITE, and no DENY in `book` covers all
+    /// names of that binding.
     pub(crate) fn any_not_overridden(&self, book: &IndexedBook, who: &Text, host: &Text) -> bool
         ensures { (kind : Kind) (pattern : Pattern) (es : List Entry)
             → IsTableOf self.now kind pattern es → result
@@ -104,8 +105,8 @@ impl Names {
         false
     }
 
-    /// Appends a binding to those of its name. Its creation number is greater than theirs. An allocation failure changes
-    /// nothing.
+    /// Appends a binding to those of its name, whose creation numbers must be lesser. On an allocation failure each name
+    /// keeps the bindings that it had.
     pub(crate) fn add(
         &mut self,
         alloc: Global,

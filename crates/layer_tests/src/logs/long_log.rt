@@ -23,7 +23,8 @@ fn three_records() -> [u8; 95] {
     signed(bytes)
 }
 
-/// A log of a thousand batches with 2,000 records.
+/// A log of a thousand batches with 2,000 records: by turns one of one record, and one of three. The test fails if one isn't
+/// appended.
 fn thousand(alloc: Global) -> Result<Log, Fail> {
     let mut log = Log::new(alloc);
     let three = three_records();

@@ -71,7 +71,8 @@ fn sequence(entries: &[Entry], producer: u8) -> u8 {
     sequence
 }
 
-/// Appends a batch to a log; false where it isn't the next one of its producer.
+/// Appends a batch of at most 1,000 bytes to a log. `false`, and nothing is appended, if the bytes are no such batch, its
+/// offsets don't fit, or it isn't the next one of its producer.
 pub(crate) fn send(alloc: Global, log: &mut Log, bytes: &[u8]) -> Result<bool, AllocError> {
     let bytes = Bytes::copy_from_slice(alloc, bytes)?;
     let Ok(batch) = Batch::check(bytes, 1000) else {
@@ -89,7 +90,8 @@ pub(crate) fn send(alloc: Global, log: &mut Log, bytes: &[u8]) -> Result<bool, A
     }
 }
 
-/// Appends the marker that ends a producer's transaction; false where the log has 1,000 records.
+/// Appends the marker that ends a producer's transaction in epoch 0. `false`, and nothing is appended, if the log has 1,000
+/// records or more.
 pub(crate) fn mark(
     alloc: Global,
     log: &mut Log,
@@ -103,7 +105,8 @@ pub(crate) fn mark(
     Ok(true)
 }
 
-/// Appends an entry of this kind of the producer; false where that can't be.
+/// Appends a batch or marker of this kind of the producer to the log, and not to the list of entries. `false` if `send` or
+/// `mark` refuses it.
 fn append(alloc: Global, small: &mut Small, kind: Kind, producer: u8) -> Result<bool, AllocError> {
     let sequence = sequence(&small.entries, producer);
     let log = &mut small.log;
@@ -141,8 +144,8 @@ fn kind_of(digit: u32) -> Kind {
     }
 }
 
-/// The log of so many entries that a number tells, three bits for each: its kind, and its producer. `None` where one can't be
-/// appended.
+/// The log of `length` entries that a number spells, three bits for each from the lowest on: its kind, and its producer, 0 or
+/// 1. `None` if one can't be appended.
 fn log_of(alloc: Global, number: u32, length: u32) -> Result<Option<Small>, AllocError> {
     let mut small = Small {
         log: Log::new(alloc),
@@ -162,7 +165,7 @@ fn log_of(alloc: Global, number: u32, length: u32) -> Result<Option<Small>, Allo
     Ok(Some(small))
 }
 
-/// Whether the log answers a fetch as the list of its entries says, and a consumer shows what it ought to.
+/// Whether the log answers a fetch as the list of its entries says, and with read_committed a consumer shows what it ought to.
 fn is_right(alloc: Global, small: &Small, ask: &Ask) -> Result<bool, AllocError> {
     let answer = small
         .log
@@ -212,8 +215,8 @@ fn is_right_from_each(alloc: Global, small: &Small) -> Result<bool, AllocError> 
     Ok(true)
 }
 
-/// Whether all logs of so many entries answer rightly. The last is of producer 0: with the two producers exchanged a log is the
-/// same.
+/// Whether all logs of so many entries can be made and answer rightly. The last entry is of producer 0: with the two producers
+/// exchanged a log is the same.
 fn all_are_right(alloc: Global, length: u32) -> Result<bool, AllocError> {
     for number in 0..8u32.saturating_pow(length).div_ceil(2) {
         match log_of(alloc, number, length)? {

@@ -35,7 +35,7 @@ const OF_SECOND: &str =
 /// A budget for each batch of these logs.
 const AMPLE: u64 = 10_000;
 
-/// Appends a batch that is given in hexadecimal digits; an error where it isn't the next one of its producer.
+/// Appends a batch that is given in hexadecimal digits; the test fails if it can't be appended.
 fn append(alloc: Global, log: &mut Log, digits: &str) -> Result<(), Fail> {
     let bytes = hex::decode(alloc, digits)?;
     if send(alloc, log, bytes.as_slice())? {
@@ -45,7 +45,7 @@ fn append(alloc: Global, log: &mut Log, digits: &str) -> Result<(), Fail> {
     }
 }
 
-/// Appends the marker that ends a producer's transaction.
+/// Appends the marker that ends a producer's transaction; the test fails if it can't be appended.
 fn end(alloc: Global, log: &mut Log, outcome: TransactionResult, producer: u8) -> Result<(), Fail> {
     if mark(alloc, log, outcome, producer)? {
         Ok(())
@@ -101,7 +101,8 @@ fn is(record: &RecordAt, value: u8) -> bool {
     }
 }
 
-/// What a read_committed fetch from an offset on serves, and what a consumer shows of it.
+/// What a read_committed fetch from an offset on serves, and what a consumer shows of it; the test fails if the fetch has an
+/// error.
 fn look(alloc: Global, log: &Log, offset: i64, budget: u64, forced: bool) -> Result<Seen, Fail> {
     match log.fetch(alloc, offset, Isolation::ReadCommitted, budget, forced) {
         Ok(served) => {
