@@ -1,9 +1,9 @@
 """What the broker keeps: of a small event, by `kbroker replay`, and of polls and the bytes that clients produce and fetch, by `serve`.
 
 An event's bytes are the growth of the peak of memory from some events to twice as many (`tests/abuse/test_kept.py`), less its
-line of the script, which `replay` holds as well, and less the frame's own bytes. A poll's are the growth of a server's memory while a
-client asks the same again and again. What `serve` keeps of large batches is the peak of its memory after a client's run, less
-that before, divided by the bytes that the client produced or fetched.
+line of the script, which `replay` holds as well, and less the frame's own bytes. A poll's are the growth of a server's memory while
+a client asks again and again, the same or two in turn. What `serve` keeps of large batches is the peak of its memory after a
+client's run, less that before, divided by the bytes that the client produced or fetched.
 """
 
 import subprocess
@@ -31,11 +31,11 @@ def small_events():
 
 
 def polls():
-    """A table of polls that are asked and answered as the one before."""
-    print("\n| a poll as the one before | kept |\n|---|--:|")
-    for api in POLLS:
-        kept, _ = kept_of_poll(api)
-        print(f"| {api} | {kept:.0f} |")
+    """A table of polls without records: where a session asks as before, and where it asks two in turn."""
+    print("\n| a poll | kept, asked as before | asked otherwise |\n|---|--:|--:|")
+    for api, requests in POLLS.items():
+        (as_before, _), (otherwise, _) = kept_of_poll(api, requests[:1]), kept_of_poll(api, requests)
+        print(f"| {api} | {as_before:.0f} | {otherwise:.0f} |")
 
 
 def served(client, *words):

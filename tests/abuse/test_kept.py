@@ -35,11 +35,13 @@ LIMITS = {
     "a Produce of one record": 770,
 }
 
-# What a consumer asks again and again, of a log without records and of a group. The fields of each request.
+# What a consumer asks again and again, of a log without records and of a group: the fields of a request, and of one like it.
 POLLS = {
-    "Fetch": {"isolation": 1, "max_bytes": 1 << 20, "topics": in_partition(PLACE, offset=0, max_bytes=100)},
-    "ListOffsets": {"isolation": 1, "topics": in_partition(PLACE, timestamp=-1)},
-    "Heartbeat": {"group": "g", "generation": 1, "member": "nobody"},
+    "Fetch": [
+        {"isolation": 1, "max_bytes": 1 << 20, "topics": in_partition(PLACE, offset=0, max_bytes=most)} for most in (100, 101)
+    ],
+    "ListOffsets": [{"isolation": 1, "topics": in_partition(PLACE, timestamp=asked)} for asked in (-1, -2)],
+    "Heartbeat": [{"group": "g", "generation": asked, "member": "nobody"} for asked in (1, 2)],
 }
 FIRST_POLLS, MORE_POLLS, AT_ONCE = 30_000, 90_000, 100
 LIMIT_OF_A_POLL = 120  # bytes: its entry, its receipt, and what their lists take ahead
@@ -58,24 +60,24 @@ def kept_of(line):
     return len(line), own, (many - few) / (MANY - FEW) - len(line) - own
 
 
-def poll(client, frame, count):
-    """Sends a frame so many times, AT_ONCE of them at a time, and gives all that was answered as a set."""
+def poll(client, frames, count):
+    """Sends so many frames, these in turn and AT_ONCE of them at a time, and gives all that was answered as a set."""
     answers = set()
     for _ in range(count // AT_ONCE):
-        client.socket.sendall(frame * AT_ONCE)
+        client.socket.sendall(b"".join(frames) * (AT_ONCE // len(frames)))
         for _ in range(AT_ONCE):
             (size,) = struct.unpack(">i", client.input.read(4))
             answers.add(client.input.read(size))
     return answers
 
 
-def kept_of_poll(api):
-    """The bytes that a server keeps of a poll that is asked as the one before, and what was answered to all of them, as a set."""
+def kept_of_poll(api, requests):
+    """The bytes that a server keeps of a poll where a session asks these requests in turn, and all that was answered, as a set."""
     with ClockedKbroker(OF_ROOT + topic("t"), connections=1) as broker, logged_in(broker.address) as client:
-        frame = request_frame(api, 7, POLLS[api])
-        answers = poll(client, frame, FIRST_POLLS)
+        frames = [request_frame(api, 7, it) for it in requests]
+        answers = poll(client, frames, FIRST_POLLS)
         before = broker.memory()
-        answers |= poll(client, frame, MORE_POLLS)
+        answers |= poll(client, frames, MORE_POLLS)
         return (broker.memory() - before) / MORE_POLLS, answers
 
 
@@ -88,9 +90,9 @@ class Kept(unittest.TestCase):
                 self.assertGreater(kept, 40)  # an entry: else it isn't the event that is measured
 
     def test_a_poll_that_is_answered_as_before_keeps_an_entry(self):
-        for api in POLLS:
+        for api, (request, _) in POLLS.items():
             with self.subTest(api):
-                kept, answers = kept_of_poll(api)
+                kept, answers = kept_of_poll(api, [request])
                 self.assertLess(kept, LIMIT_OF_A_POLL)
                 self.assertEqual(len(answers), 1)
 
