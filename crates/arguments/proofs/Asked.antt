@@ -360,7 +360,7 @@ refused_asks_nothing words refused (Check file) e = refused (asked_passes check 
 refused_asks_nothing words refused (Serve serving) asked = refused asked.given.taken
 refused_asks_nothing words refused (Show showing) asked = refused asked.given.taken
 
--- words that ask for something are refused only for want of memory
+-- words that ask for something are refused only where an allocation fails
 pub job_refused : (a : App) (words : List Text) (error : Error) → a ≡ command_line → (is_simple_and_free a ≡ true → HasKind (fault_of a words) error)
     → AsksNothing words ⊎ (kind_of error ≡ kind.OutOfMemory)
 job_refused a words error is fails = go (fault_of command_line words) refl

@@ -99,7 +99,7 @@ broken_off g n limit s input added b done left t rest w goes split cause broken 
   whole = λ h. absurd cc;
 }
 
--- nothing was done, for want of memory
+-- nothing was done, since an allocation failed
 undone : (g : Setting) (n limit : ℕ) (s : SessionState) (input : List ℕ) → Served g n limit s input [] [] why.NoMemory
 undone g n limit s input = record {
   later = asked_events g n limit s input;
@@ -476,7 +476,7 @@ session_full g all limit m (Some input) held s a w receipts none (read, rest, wh
   ),
 )
 
--- nothing was read, for want of memory
+-- nothing was read, since an allocation failed
 pub nothing_done : (g : Setting) (all limit : ℕ) (start held : Option (List ℕ)) (receipts : List ReceiptValue) → receipts ≡ [] → TookLast start (SessionOf g all limit held held receipts why.NoMemory)
 nothing_done g all limit None held receipts none = tt
 nothing_done g all limit (Some input) held receipts none =
