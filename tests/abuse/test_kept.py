@@ -28,11 +28,11 @@ EVENTS = {
 }
 # In bytes, above the frame's own.
 LIMITS = {
-    "a tick": 120,
-    "a marker step": 120,
-    "a Metadata of one topic": 450,
-    "a Fetch of one record": 690,
-    "a Produce of one record": 770,
+    "a tick": 100,
+    "a marker step": 100,
+    "a Metadata of one topic": 320,
+    "a Fetch of one record": 450,
+    "a Produce of one record": 450,
 }
 
 # What a consumer asks again and again, of a log without records and of a group: the fields of a request, and of one like it.
@@ -45,6 +45,15 @@ POLLS = {
 }
 FIRST_POLLS, MORE_POLLS, AT_ONCE = 30_000, 90_000, 100
 LIMIT_OF_A_POLL = 120  # bytes: its entry, its receipt, and what their lists take ahead
+# In bytes, its frame among them, where a session asks two such requests in turn.
+LIMITS_OTHERWISE = {"Fetch": 340, "ListOffsets": 300, "Heartbeat": 290}
+
+# A consumer that waits, and now and then commits another offset.
+COMMITTER = {"group": "g", "generation": -1, "member": "", "retention": -1}
+POLLS_OF_A_COMMIT = 49
+LIMIT_OF_A_COMMIT = 1_500  # bytes, with the first poll after it, which is kept as well; beside what the other polls keep
+FEW_SESSIONS, MORE_SESSIONS = 200, 1_000
+LIMIT_OF_A_SESSION = 2_048  # bytes, where it logs in, asks one Metadata and ends
 
 
 def frame_length(line):
@@ -81,6 +90,40 @@ def kept_of_poll(api, requests):
         return (broker.memory() - before) / MORE_POLLS, answers
 
 
+def kept_of_commit():
+    """The bytes that a server keeps of an OffsetCommit among many polls without records, less what it keeps of polls alone."""
+    (fetch, _) = POLLS["Fetch"]
+    fetches = [request_frame("Fetch", 7, fetch)] * POLLS_OF_A_COMMIT
+    commits = [
+        request_frame("OffsetCommit", 7, {**COMMITTER, "topics": in_partition(PLACE, offset=offset, metadata="")})
+        for offset in (1, 2)
+    ]
+    asked = [*fetches, commits[0], *fetches, commits[1]]
+    of_poll, _ = kept_of_poll("Fetch", [fetch])
+    with ClockedKbroker(OF_ROOT + topic("t"), connections=1) as broker, logged_in(broker.address) as client:
+        poll(client, asked, FIRST_POLLS)
+        before = broker.memory()
+        poll(client, asked, MORE_POLLS)
+        kept = broker.memory() - before
+    commits = MORE_POLLS // (POLLS_OF_A_COMMIT + 1)
+    return (kept - of_poll * (MORE_POLLS - commits)) / commits
+
+
+def kept_of_session():
+    """The bytes that a server keeps of a session that logs in, asks the metadata of one topic, and ends."""
+    with ClockedKbroker(OF_ROOT + topic("t"), connections=FEW_SESSIONS + MORE_SESSIONS) as broker:
+
+        def visit(count):
+            for _ in range(count):
+                with logged_in(broker.address) as client:
+                    client.ask("Metadata", topics=["t"])
+
+        visit(FEW_SESSIONS)
+        before = broker.memory()
+        visit(MORE_SESSIONS)
+        return (broker.memory() - before) / MORE_SESSIONS
+
+
 class Kept(unittest.TestCase):
     def test_small_events_keep_little(self):
         for name, line in EVENTS.items():
@@ -95,6 +138,19 @@ class Kept(unittest.TestCase):
                 kept, answers = kept_of_poll(api, [request])
                 self.assertLess(kept, LIMIT_OF_A_POLL)
                 self.assertEqual(len(answers), 1)
+
+    def test_a_poll_that_is_asked_otherwise_keeps_little(self):
+        for api, requests in POLLS.items():
+            with self.subTest(api):
+                kept, _ = kept_of_poll(api, requests)
+                self.assertLess(kept, LIMITS_OTHERWISE[api])
+                self.assertGreater(kept, LIMIT_OF_A_POLL)  # both are kept: else it isn't two requests that are measured
+
+    def test_a_request_among_polls_keeps_none_of_them(self):
+        self.assertLess(kept_of_commit(), LIMIT_OF_A_COMMIT)
+
+    def test_a_short_session_keeps_little(self):
+        self.assertLess(kept_of_session(), LIMIT_OF_A_SESSION)
 
 
 if __name__ == "__main__":

@@ -6,7 +6,7 @@ ghost use Rattle.acl_binding.specs.Verdict.{question_of};
 
 use crate::words::{Kind, Operation};
 use std::alloc::AllocError;
-use wire_types::Text;
+use wire_types::{Boxed, Text};
 
 /// A principal, and the host that it calls from.
 #[derive(Clone, Debug, Drop)]
@@ -55,12 +55,12 @@ impl Caller {
         &self,
         op: Operation,
         kind: Kind,
-        name: &Option<Text>,
+        name: &Option<Boxed<Text>>,
     ) -> Result<Option<Question>, AllocError>
         ensures { IfOk result (λ asks. asks ≡ option_map (question_of self.now op kind) name.now) }
     {
         match name {
-            Some(name) => Ok(Some(self.asks(op, kind, name)?)),
+            Some(name) => Ok(Some(self.asks(op, kind, name.value())?)),
             None => Ok(None),
         }
     }

@@ -14,7 +14,7 @@ use msg_acl::{BindingEntry, CreateAclsReply, CreateAclsRequest, CreatedAcl};
 use msg_admin::Reply;
 use std::alloc::{AllocError, Global};
 use walk::refusal_code;
-use wire_types::{ErrorCode, Items};
+use wire_types::{Boxed, ErrorCode, Items};
 
 /// An entry's answer with this error code, NONE if its binding was created.
 fn created_with(error: ErrorCode) -> CreatedAcl
@@ -27,13 +27,14 @@ fn created_with(error: ErrorCode) -> CreatedAcl
 }
 
 /// The CreateAcls reply with these answers.
-fn create_acls_reply(results: Items<CreatedAcl>) -> Reply
-    ensures { result ≡ Reply.CreateAcls (create_acls_reply results) }
+fn create_acls_reply(alloc: Global, results: Items<CreatedAcl>) -> Result<Reply, AllocError>
+    ensures { IfOk result (λ reply. reply ≡ Reply.CreateAcls (create_acls_reply results)) }
 {
-    Reply::CreateAcls(CreateAclsReply {
+    let reply = CreateAclsReply {
         throttle: 0,
         results,
-    })
+    };
+    Ok(Reply::CreateAcls(Boxed::new(alloc, reply)?))
 }
 
 /// Adds the binding that an entry describes, and answers NONE, also if an equal one is there already. Answers INVALID_REQUEST
@@ -71,7 +72,7 @@ fn create_all(
     ensures supers { OnOk result (policy.new.supers ≡ policy.old.supers) }
     ensures answers { IfOk result (λ results. results ≡ map creation_result creations.now) }
 {
-    let mut results = Items::new(alloc);
+    let mut results = Items::with_capacity(alloc, creations.len())?;
     for entry in creations {
         results.push(create(alloc, policy, entry)?)?;
     }
@@ -91,11 +92,11 @@ fn created_none(
         creations.now))) }
 {
     let code = refusal_code(refusal);
-    let mut results = Items::new(alloc);
+    let mut results = Items::with_capacity(alloc, creations.len())?;
     for _entry in creations {
         results.push(created_with(code))?;
     }
-    Ok(create_acls_reply(results))
+    create_acls_reply(alloc, results)
 }
 
 /// Handles a CreateAcls: adds the bindings if the caller may ALTER the cluster, and answers NONE or INVALID_REQUEST for each;
@@ -117,7 +118,8 @@ pub fn answer_create_acls(
         Ok(permit) => {
             let paid = Paid::one(permit.spend(&state.policy));
             let results = create_all(alloc, &mut state.policy, creations)?;
-            Ok(served_whole(alloc, create_acls_reply(results), paid))
+            let reply = create_acls_reply(alloc, results)?;
+            Ok(served_whole(alloc, reply, paid))
         }
         Err(refusal) => {
             let reply = created_none(alloc, &refusal, creations)?;

@@ -18,7 +18,7 @@ use msg_acl::{
 use msg_admin::Reply;
 use std::alloc::{AllocError, Global};
 use walk::refusal_code;
-use wire_types::{ErrorCode, Items};
+use wire_types::{Boxed, ErrorCode, Items};
 
 /// A deleted binding as the reply lists it, with error code NONE.
 fn deleted_acl(binding: &Binding) -> Result<DeletedAcl, AllocError>
@@ -51,13 +51,14 @@ fn deleted_error(alloc: Global, error: ErrorCode) -> DeletedAcls
 }
 
 /// The DeleteAcls reply with these answers.
-fn delete_acls_reply(results: Items<DeletedAcls>) -> Reply
-    ensures { result ≡ Reply.DeleteAcls (delete_acls_reply results) }
+fn delete_acls_reply(alloc: Global, results: Items<DeletedAcls>) -> Result<Reply, AllocError>
+    ensures { IfOk result (λ reply. reply ≡ Reply.DeleteAcls (delete_acls_reply results)) }
 {
-    Reply::DeleteAcls(DeleteAclsReply {
+    let reply = DeleteAclsReply {
         throttle: 0,
         results,
-    })
+    };
+    Ok(Reply::DeleteAcls(Boxed::new(alloc, reply)?))
 }
 
 /// The deleted bindings as the reply lists them.
@@ -108,7 +109,7 @@ fn delete_all(
     ensures answers { IfOk result
         (λ results. results ≡ deletion_results policy.old.book filters.now) }
 {
-    let mut results = Items::new(alloc);
+    let mut results = Items::with_capacity(alloc, filters.len())?;
     for entry in filters {
         results.push(delete(alloc, policy, entry)?)?;
     }
@@ -127,11 +128,11 @@ fn deleted_none(
         (map (λ (entry : Entry). deletion_error (refusal_code refusal.now)) filters.now))) }
 {
     let code = refusal_code(refusal);
-    let mut results = Items::new(alloc);
+    let mut results = Items::with_capacity(alloc, filters.len())?;
     for _entry in filters {
         results.push(deleted_error(alloc, code))?;
     }
-    Ok(delete_acls_reply(results))
+    delete_acls_reply(alloc, results)
 }
 
 /// Handles a DeleteAcls: removes the bindings that match the filters, filter by filter, if the caller may ALTER the cluster,
@@ -154,7 +155,8 @@ pub fn answer_delete_acls(
         Ok(permit) => {
             let paid = Paid::one(permit.spend(&state.policy));
             let results = delete_all(alloc, &mut state.policy, filters)?;
-            Ok(served_whole(alloc, delete_acls_reply(results), paid))
+            let reply = delete_acls_reply(alloc, results)?;
+            Ok(served_whole(alloc, reply, paid))
         }
         Err(refusal) => {
             let reply = deleted_none(alloc, &refusal, filters)?;

@@ -22,7 +22,7 @@ pub(crate) fn answer_api_versions(alloc: Global) -> Result<HandlerResult, AllocE
           spent = 0;
         }) }
 {
-    let reply = Reply::ApiVersions(versions_reply(alloc)?);
+    let reply = Reply::ApiVersions(Boxed::new(alloc, versions_reply(alloc)?)?);
     Ok(served_whole(alloc, reply, Paid::nothing()))
 }
 
@@ -37,7 +37,8 @@ pub(crate) fn answer_sasl_handshake(alloc: Global) -> Result<HandlerResult, Allo
         }) }
 {
     let told = SaslHandshakeReply::telling(alloc, ErrorCode::IllegalSaslState)?;
-    Ok(served_whole(alloc, Reply::SaslHandshake(told), Paid::nothing()))
+    let reply = Reply::SaslHandshake(Boxed::new(alloc, told)?);
+    Ok(served_whole(alloc, reply, Paid::nothing()))
 }
 
 /// Handles a SaslAuthenticate that comes after the login: ILLEGAL_SASL_STATE.

@@ -4,16 +4,16 @@ ghost use Rattle.std.specs.Prelude.{◌≡◌, [], IfOk};
 ghost use Rattle.broker_world.specs.Brokers.{broker_info, brokers_of};
 
 use crate::node::Node;
-use msg_data::{BrokerInfo, PartitionInfo, SharedItems};
+use msg_data::{BrokerInfo, PartitionInfo};
 use std::alloc::{AllocError, Global};
 use std::marker::Model;
-use wire_types::Items;
+use wire_types::{Items, Shared};
 
 /// The one node, with the lists that Metadata answers about it: they are made once, and all replies share them.
 pub struct Cluster {
     node: Node,
-    brokers: SharedItems<BrokerInfo>,
-    no_partitions: SharedItems<PartitionInfo>,
+    brokers: Shared<Items<BrokerInfo>>,
+    no_partitions: Shared<Items<PartitionInfo>>,
 }
 
 impl Model for Cluster {
@@ -45,8 +45,8 @@ impl Cluster {
     {
         let mut brokers = Items::new(alloc);
         brokers.push(broker_info(&node)?)?;
-        let brokers = SharedItems::of(alloc, brokers)?;
-        let no_partitions = SharedItems::of(alloc, Items::new(alloc))?;
+        let brokers = Shared::new(alloc, brokers)?;
+        let no_partitions = Shared::new(alloc, Items::new(alloc))?;
         Ok(Cluster {
             node,
             brokers,
@@ -62,7 +62,7 @@ impl Cluster {
     }
 
     /// One more owner of the list of brokers that Metadata answers. It fails only where the count of owners is full.
-    pub fn brokers(&self) -> Result<SharedItems<BrokerInfo>, AllocError>
+    pub fn brokers(&self) -> Result<Shared<Items<BrokerInfo>>, AllocError>
         ensures { IfOk result (λ brokers. brokers ≡ brokers_of self.now) }
     {
         self.brokers.share()
@@ -70,7 +70,7 @@ impl Cluster {
 
     /// One more owner of the empty list of partitions, which Metadata answers for a topic with an error. It fails only where
     /// the count of owners is full.
-    pub fn no_partitions(&self) -> Result<SharedItems<PartitionInfo>, AllocError>
+    pub fn no_partitions(&self) -> Result<Shared<Items<PartitionInfo>>, AllocError>
         ensures { IfOk result (λ partitions. partitions ≡ []) }
     {
         self.no_partitions.share()

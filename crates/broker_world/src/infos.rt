@@ -3,15 +3,15 @@
 ghost use Rattle.std.specs.Prelude.{◌≡◌, ◌<◌, ◌^◌, [], ◌∷◌, IfOk};
 ghost use Rattle.broker_world.specs.Partitions.{partition_info, partitions_from};
 
-use msg_data::{PartitionInfo, SharedItems};
+use msg_data::PartitionInfo;
 use std::alloc::{AllocError, Global};
-use wire_types::{ErrorCode, Items};
+use wire_types::{ErrorCode, Items, Shared};
 
 /// The partition of this index as Metadata lists it: the node with the id `node` is its leader and its only replica, in sync.
 /// `nodes` is the list of that node alone, which the lists of replicas share.
 fn partition_info(
     node: i32,
-    nodes: &SharedItems<i32>,
+    nodes: &Shared<Items<i32>>,
     index: u32,
 ) -> Result<PartitionInfo, AllocError>
     requires index { index < 2 ^ 31 }
@@ -32,14 +32,14 @@ pub(crate) fn led_by(
     alloc: Global,
     node: i32,
     count: u32,
-) -> Result<SharedItems<PartitionInfo>, AllocError>
+) -> Result<Shared<Items<PartitionInfo>>, AllocError>
     requires { count < 2 ^ 31 }
     ensures { IfOk result (λ infos. infos ≡ partitions_from node 0 count) }
 {
-    let nodes = SharedItems::of(alloc, Items::from(vec![in alloc; node]?))?;
+    let nodes = Shared::new(alloc, Items::from(vec![in alloc; node]?))?;
     let mut infos = Items::new(alloc);
     for index in 0..count {
         infos.push(partition_info(node, &nodes, index)?)?;
     }
-    SharedItems::of(alloc, infos)
+    Ok(Shared::new(alloc, infos)?)
 }

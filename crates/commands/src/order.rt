@@ -11,7 +11,7 @@ use hex::FromHexError;
 use std::alloc::{AllocError, Global};
 use std::str::from_utf8;
 use thiserror::Error;
-use wire_types::{Bytes, Cursor, Text};
+use wire_types::{Block, Bytes, Cursor, Text};
 
 /// The bytes of a frame's size field.
 const SIZE_FIELD: usize = 4;
@@ -79,13 +79,28 @@ fn after_size(frame: &Bytes) -> Result<Option<Bytes>, AllocError>
     Ok(Some(frame.slice(SIZE_FIELD..frame.len())?))
 }
 
+/// The bytes of a frame, a short one's as the next part of the block.
+fn kept(block: &mut Block, frame: Vec<u8>) -> Result<Bytes, AllocError>
+    ensures { IfOk result (λ kept. kept ≡ frame.items) }
+{
+    if frame.len() <= Block::SHORT {
+        block.copy(&frame)
+    } else {
+        Bytes::from_vec(frame)
+    }
+}
+
 /// The frame that hexadecimal digits spell, without its size field. The inner error is `Digits` where they spell no bytes, `Size`
 /// where the size field is wrong; the outer one is an allocation failure.
-fn parse_frame(alloc: Global, digits: &str) -> Result<Result<Bytes, Unreadable>, AllocError>
+fn parse_frame(
+    alloc: Global,
+    block: &mut Block,
+    digits: &str,
+) -> Result<Result<Bytes, Unreadable>, AllocError>
     ensures { IfOk result (λ read. result_ok read ≡ frame_of digits.now) }
 {
     let frame = match hex::decode(alloc, digits) {
-        Ok(frame) => Bytes::from_vec(frame)?,
+        Ok(frame) => kept(block, frame)?,
         Err(FromHexError::OutOfMemory) => return Err(AllocError),
         Err(_) => return Ok(Err(Unreadable::Digits)),
     };
@@ -120,13 +135,17 @@ fn caller(alloc: Global, user: &str, host: &str) -> Result<Caller, AllocError>
 
 /// Reads `USER HOST HEX`, the words after `req `: who sends a request, and its frame. The inner error says why they can't be
 /// read; the outer one is an allocation failure.
-fn parse_sent(alloc: Global, text: &str) -> Result<Result<Sent, Unreadable>, AllocError>
+fn parse_sent(
+    alloc: Global,
+    block: &mut Block,
+    text: &str,
+) -> Result<Result<Sent, Unreadable>, AllocError>
     ensures { IfOk result (λ read. result_ok read ≡ sent_of text.now) }
 {
     let Some(words) = split_words(text) else {
         return Ok(Err(Unreadable::Words));
     };
-    match parse_frame(alloc, words.digits)? {
+    match parse_frame(alloc, block, words.digits)? {
         Ok(frame) => Ok(Ok(Sent {
             caller: caller(alloc, words.user, words.host)?,
             frame,
@@ -150,7 +169,11 @@ pub fn parse_number(digits: &str) -> Option<u64>
 
 /// Reads a line of a script, `req USER HOST HEX`, `mark` or `tick N`. The inner error says why it can't be read; the outer one is
 /// an allocation failure.
-fn parse_text(alloc: Global, text: &str) -> Result<Result<Order, Unreadable>, AllocError>
+fn parse_text(
+    alloc: Global,
+    block: &mut Block,
+    text: &str,
+) -> Result<Result<Order, Unreadable>, AllocError>
     ensures { IfOk result (λ read. result_ok read ≡ order_in text.now) }
 {
     if text == "mark" {
@@ -160,7 +183,7 @@ fn parse_text(alloc: Global, text: &str) -> Result<Result<Order, Unreadable>, Al
         return Ok(Err(Unreadable::Words));
     };
     if first == "req" {
-        return match parse_sent(alloc, rest)? {
+        return match parse_sent(alloc, block, rest)? {
             Ok(sent) => Ok(Ok(Order::Ask(sent))),
             Err(unreadable) => Ok(Err(unreadable)),
         };
@@ -184,13 +207,17 @@ fn text_of(bytes: &[u8]) -> Option<&str>
     }
 }
 
-/// Reads a line of a script, given without its line feed, and gives what it asks for. The inner error says why it can't be read;
-/// the outer one is an allocation failure.
-pub fn parse_order(alloc: Global, line: &[u8]) -> Result<Result<Order, Unreadable>, AllocError>
+/// Reads a line of a script, given without its line feed, and gives what it asks for. A short frame is the next part of the
+/// block, which a script's lines share. The inner error says why it can't be read; the outer one is an allocation failure.
+pub fn parse_order(
+    alloc: Global,
+    block: &mut Block,
+    line: &[u8],
+) -> Result<Result<Order, Unreadable>, AllocError>
     ensures { IfOk result (λ read. result_ok read ≡ order_of line.now) }
 {
     match text_of(line) {
-        Some(text) => parse_text(alloc, text),
+        Some(text) => parse_text(alloc, block, text),
         None => Ok(Err(Unreadable::Text)),
     }
 }

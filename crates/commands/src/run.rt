@@ -23,6 +23,7 @@ use settings_text::{SettingsFault, document_of_text};
 use std::alloc::Global;
 use std::fmt::Display;
 use std::io::{Read, Write, sink};
+use wire_types::Block;
 
 /// What is said where an input has settings alone.
 const NO_SCRIPT: &str =
@@ -99,10 +100,11 @@ fn run_script<W: Write, E: Write>(
         (script_answer core.settings [] 1 (lines_of script.now)) result }
 {
     let mut rest = script;
+    let mut block = Block::new(alloc);
     let mut number: u64 = 1;
     while !rest.is_empty() {
         let (line, more) = split_line(rest);
-        match line_turn(alloc, &mut core, number, line) {
+        match line_turn(alloc, &mut core, &mut block, number, line) {
             Ok(Turn::Goes(text)) => {
                 if write_text(writer, text.as_str()).is_err() {
                     return Err(Early::Write);

@@ -19,6 +19,7 @@ use authorizer::Refusal;
 use msg_admin::{FRAME_LIMIT, Frame, Header, Request, decode_frame};
 use request_handlers::{Core, Receipt, Stop};
 use std::alloc::{AllocError, Global};
+use wire_types::Block;
 
 /// What a line of a script does.
 #[derive(Debug, Drop)]
@@ -155,6 +156,7 @@ fn order_turn(alloc: Global, core: &mut Core, order: Order) -> Result<Turn, Allo
 pub(crate) fn line_turn(
     alloc: Global,
     core: &mut Core,
+    block: &mut Block,
     number: u64,
     line: &[u8],
 ) -> Result<Turn, AllocError>
@@ -163,7 +165,7 @@ pub(crate) fn line_turn(
         (IsTransition (line_transition core.old.settings (events_of core.old.trail) number line.now)
         core.old.settings core.new) }
 {
-    match parse_order(alloc, content(line))? {
+    match parse_order(alloc, block, content(line))? {
         Ok(order) => order_turn(alloc, core, order),
         Err(unreadable) => Ok(Turn::Ends(
             unreadable_text(alloc, number)?,

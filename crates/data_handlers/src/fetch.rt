@@ -18,7 +18,7 @@ use partition_log::{FetchFault, Log, Served};
 use record_batch::Batch;
 use std::alloc::{AllocError, Global};
 use walk::{Part, PartApi, refusal_code, walk};
-use wire_types::{ErrorCode, Items, Pieces, Text};
+use wire_types::{Boxed, ErrorCode, Items, Pieces, Text};
 
 /// How a Fetch serves a partition: for whom, at which isolation level, from which topics.
 #[derive(Drop)]
@@ -129,7 +129,7 @@ impl FetchBudget {
     {
         let mut left = self.left;
         for batch in batches {
-            left = left.saturating_sub(batch.bytes().len() as u64);
+            left = left.saturating_sub(batch.len() as u64);
         }
         FetchBudget {
             left,
@@ -193,7 +193,7 @@ fn joined(alloc: Global, batches: &[Batch]) -> Result<Pieces, AllocError>
 {
     let mut out = Pieces::new(alloc);
     for batch in batches {
-        out.push(batch.bytes().clone()?)?;
+        out.push(batch.piece()?)?;
     }
     Ok(out)
 }
@@ -229,7 +229,8 @@ pub fn answer_fetch(
         throttle: 0,
         topics: walked.topics,
     };
-    Ok(served_in_parts(Reply::Fetch(reply), walked.refusals, walked.spent))
+    let reply = Reply::Fetch(Boxed::new(alloc, reply)?);
+    Ok(served_in_parts(reply, walked.refusals, walked.spent))
 }
 
 /// The budget of a whole answer: the request's `max_bytes`, or 0 where that is negative, and no batch given yet.

@@ -14,7 +14,7 @@ use msg_data::{FoundOffset, Isolation, ListOffsetsReply, ListOffsetsRequest, Wan
 use partition_log::Log;
 use std::alloc::{AllocError, Global};
 use walk::{Part, PartApi, refusal_code, walk};
-use wire_types::{ErrorCode, Text};
+use wire_types::{Boxed, ErrorCode, Text};
 
 /// The timestamp -1 asks for the end: the high watermark, or with read_committed the last stable offset.
 const END: i64 = -1;
@@ -138,5 +138,6 @@ pub fn answer_list_offsets(
         throttle: 0,
         topics: walked.topics,
     };
-    Ok(served_in_parts(Reply::ListOffsets(reply), walked.refusals, walked.spent))
+    let reply = Reply::ListOffsets(Boxed::new(alloc, reply)?);
+    Ok(served_in_parts(reply, walked.refusals, walked.spent))
 }

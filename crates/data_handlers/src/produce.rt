@@ -21,14 +21,14 @@ use record_batch::{Batch, BatchFault, BatchHeader, SentBatch};
 use std::alloc::{AllocError, Global};
 use txn_coordinator::{Coordinator, ProducerIdAndEpoch, ProducerIdOwner, Target, TopicPartition};
 use walk::{Part, PartApi, refusal_code, walk};
-use wire_types::{ErrorCode, Items, Text, Topic};
+use wire_types::{Boxed, ErrorCode, Items, Text, Topic};
 
 /// How a Produce serves a partition: `id` is the transactional id, `asked` what the policy answered to WRITE on it, and `most`
 /// the greatest size of a batch in bytes.
 #[derive(Drop)]
 pub(crate) struct ProduceHandler<'a> {
     pub(crate) caller: &'a Caller,
-    pub(crate) id: &'a Option<Text>,
+    pub(crate) id: &'a Option<Boxed<Text>>,
     pub(crate) asked: &'a Option<Settled>,
     pub(crate) acks: i16,
     pub(crate) most: u32,
@@ -218,7 +218,7 @@ fn batch_in(
     records: Option<SentBatch>,
     most: u32,
     coordinator: &Coordinator,
-    id: &Option<Text>,
+    id: &Option<Boxed<Text>>,
     target: &Target,
 ) -> Result<Batch, ErrorCode>
     ensures { result ≡ batch_in most coordinator.now id.now target.now records }
@@ -234,14 +234,14 @@ fn batch_in(
 /// The batch if its producer may send it, else the error code: that of the batch's fault, or that of the producer.
 fn passed(
     coordinator: &Coordinator,
-    id: &Option<Text>,
+    id: &Option<Boxed<Text>>,
     target: &Target,
     batch: Result<Batch, BatchFault>,
 ) -> Result<Batch, ErrorCode>
     ensures { result ≡ batch_or_error coordinator.now id.now target.now batch }
 {
     match batch {
-        Ok(batch) => match producer_code(coordinator, id, target, batch.header()) {
+        Ok(batch) => match producer_code(coordinator, id, target, &batch.header()) {
             Some(code) => Err(code),
             None => Ok(batch),
         },
@@ -268,7 +268,7 @@ fn sent(records: SentBatch, most: u32) -> Result<Batch, BatchFault>
 /// that was given to an idempotent producer (`given_code`).
 fn producer_code(
     coordinator: &Coordinator,
-    id: &Option<Text>,
+    id: &Option<Boxed<Text>>,
     target: &Target,
     header: &BatchHeader,
 ) -> Option<ErrorCode>
@@ -297,14 +297,14 @@ fn pair_of(header: &BatchHeader) -> ProducerIdAndEpoch
 /// transactional id. `None` if this producer has an open transaction with this partition.
 fn held_code(
     coordinator: &Coordinator,
-    id: &Option<Text>,
+    id: &Option<Boxed<Text>>,
     pair: ProducerIdAndEpoch,
     target: &Target,
 ) -> Option<ErrorCode>
     ensures { result ≡ held_code coordinator.now id.now pair target.now }
 {
     match id {
-        Some(id) => refused_by(coordinator.holds(id, pair, target)),
+        Some(id) => refused_by(coordinator.holds(id.value(), pair, target)),
         None => Some(ErrorCode::InvalidTxnState),
     }
 }
@@ -323,17 +323,22 @@ fn given_code(given: ProducerIdOwner) -> Option<ErrorCode>
 }
 
 /// The Produce reply with these answers. With acks 0 it is a `SilentProduce`, which isn't sent.
-fn produce_reply(acks: i16, topics: Items<Topic<ProducedOffset>>) -> Reply
-    ensures { result ≡ produce_reply acks topics }
+fn produce_reply(
+    alloc: Global,
+    acks: i16,
+    topics: Items<Topic<ProducedOffset>>,
+) -> Result<Reply, AllocError>
+    ensures { IfOk result (λ reply. reply ≡ produce_reply acks topics) }
 {
     let reply = ProduceReply {
         topics,
         throttle: 0,
     };
+    let reply = Boxed::new(alloc, reply)?;
     if acks == 0 {
-        Reply::SilentProduce(reply)
+        Ok(Reply::SilentProduce(reply))
     } else {
-        Reply::Produce(reply)
+        Ok(Reply::Produce(reply))
     }
 }
 
@@ -365,6 +370,6 @@ pub fn answer_produce(
     };
     let topics = request.topics.as_slice();
     let walked = walk(alloc, &api, &state.policy, &mut state.topics, topics)?;
-    let reply = produce_reply(request.acks, walked.topics);
+    let reply = produce_reply(alloc, request.acks, walked.topics)?;
     Ok(served_in_parts(reply, walked.refusals, walked.spent))
 }

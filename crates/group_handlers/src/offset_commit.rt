@@ -17,7 +17,7 @@ use msg_group::{CommittedOffset, OffsetCommitReply, OffsetCommitRequest, OffsetT
 use partition_log::Log;
 use std::alloc::{AllocError, Global};
 use walk::{Part, PartApi, refusal_code, walk};
-use wire_types::{ErrorCode, Text};
+use wire_types::{Boxed, ErrorCode, Text};
 
 /// Serves the partitions of an OffsetCommit. It holds the caller, the group and member for which it commits, what the policy
 /// answered to READ of the group (`asked`), and the topics.
@@ -149,5 +149,6 @@ pub fn answer_offset_commit(
     let reply = OffsetCommitReply {
         topics: walked.topics,
     };
-    Ok(served_in_parts(Reply::OffsetCommit(reply), walked.refusals, walked.spent))
+    let reply = Reply::OffsetCommit(Boxed::new(alloc, reply)?);
+    Ok(served_in_parts(reply, walked.refusals, walked.spent))
 }

@@ -19,7 +19,7 @@ use msg_admin::Reply;
 use msg_group::{FetchedOffset, OffsetFetchReply, OffsetFetchRequest};
 use std::alloc::{AllocError, Global};
 use walk::{Part, PartApi, refusal_code, walk};
-use wire_types::{ErrorCode, Items, Text, Topic};
+use wire_types::{Boxed, ErrorCode, Items, Text, Topic};
 
 /// Serves the partitions that an OffsetFetch names. It holds the caller, the group's offsets, and whether stable offsets are
 /// required (`stable`, KIP-447): a partition of which a transaction that isn't over has staged an offset then has none.
@@ -117,14 +117,19 @@ fn fetched(
 }
 
 /// The OffsetFetch reply with this error code and these answers.
-fn fetch_reply(error: ErrorCode, topics: Items<Topic<FetchedOffset>>) -> Reply
-    ensures { result ≡ fetch_reply error topics }
+fn fetch_reply(
+    alloc: Global,
+    error: ErrorCode,
+    topics: Items<Topic<FetchedOffset>>,
+) -> Result<Reply, AllocError>
+    ensures { IfOk result (λ reply. reply ≡ fetch_reply error topics) }
 {
-    Reply::OffsetFetch(OffsetFetchReply {
+    let reply = OffsetFetchReply {
         throttle: 0,
         topics,
         error,
-    })
+    };
+    Ok(Reply::OffsetFetch(Boxed::new(alloc, reply)?))
 }
 
 /// The answers for the partitions of a topic, from 0 up to but not including `count`, that have a committed offset, or with
@@ -269,7 +274,7 @@ pub fn answer_offset_fetch(
             fetched_offsets(alloc, state, caller, offsets, request, Paid::one(spent))
         }
         Err(refusal) => {
-            let reply = fetch_reply(refusal_code(&refusal), Items::new(alloc));
+            let reply = fetch_reply(alloc, refusal_code(&refusal), Items::new(alloc))?;
             refused_whole(alloc, reply, refusal)
         }
     }
@@ -305,7 +310,7 @@ fn fetched_offsets(
             let mut spent = Tally::none();
             let topics = told_topics(alloc, caller, policy, offsets, stable, slots, &mut spent)?;
             Ok(HandlerResult {
-                reply: fetch_reply(ErrorCode::None, topics),
+                reply: fetch_reply(alloc, ErrorCode::None, topics)?,
                 refusals: Items::new(alloc),
                 paid,
                 spent,
@@ -319,7 +324,7 @@ fn fetched_offsets(
             };
             let walked = walk(alloc, &api, policy, &mut (), topics.as_slice())?;
             Ok(HandlerResult {
-                reply: fetch_reply(ErrorCode::None, walked.topics),
+                reply: fetch_reply(alloc, ErrorCode::None, walked.topics)?,
                 refusals: walked.refusals,
                 paid,
                 spent: walked.spent,

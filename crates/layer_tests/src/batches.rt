@@ -58,7 +58,7 @@ fn fields(rt: HostRuntime) -> Result<(), Fail> {
         base_sequence: -1,
         record_count: 1,
     };
-    assert_eq!(rt; *one.header(), of_one);
+    assert_eq!(rt; one.header(), of_one);
     let rich = batch_of(rt.alloc(), RICH)?;
     let of_rich = BatchHeader {
         base_offset: 40,
@@ -75,7 +75,7 @@ fn fields(rt: HostRuntime) -> Result<(), Fail> {
         base_sequence: 4,
         record_count: 3,
     };
-    assert_eq!(rt; *rich.header(), of_rich);
+    assert_eq!(rt; rich.header(), of_rich);
     Ok(())
 }
 
@@ -154,10 +154,10 @@ fn thousand_records(rt: HostRuntime) -> Result<(), Fail> {
     Ok(())
 }
 
-/// The bytes of a batch, one after the other, in a new vector, though the batch may hold them in two pieces.
+/// The bytes of a batch, one after the other, in a new vector, though its piece may have them in two runs.
 fn written(alloc: Global, batch: &Batch) -> Result<Vec<u8>, AllocError> {
     let mut out = Vec::new(alloc);
-    batch.bytes().push_to(&mut out)?;
+    batch.piece()?.push_to(&mut out)?;
     Ok(out)
 }
 
@@ -178,6 +178,34 @@ fn markers(rt: HostRuntime) -> Result<(), Fail> {
         let bytes = hex::decode(rt.alloc(), digits)?;
         assert!(rt; written(rt.alloc(), &marker)?.as_slice() == bytes.as_slice());
         assert_eq!(rt; marker.marker(), Some(outcome));
+    }
+    Ok(())
+}
+
+/// The offset after the batch's last record, or None where an `i64` has no such number.
+fn next_offset_of(batch: &Batch) -> Option<i64> {
+    if batch.has_offsets() {
+        Some(batch.next_offset())
+    } else {
+        None
+    }
+}
+
+/// A batch that was placed twice stands at the last place, whose header, next offset and records say so; a share of it too.
+#[test]
+fn placed_twice(rt: HostRuntime) -> Result<(), Fail> {
+    let alloc = rt.alloc();
+    let batch = batch_of(alloc, RICH)?;
+    let placed = batch.write_at(5)?.write_at(9)?;
+    for it in [&placed, &placed.share()?] {
+        assert!(rt; it.base_offset() == 9 && it.last_offset_delta() == 2);
+        assert_eq!(rt; next_offset_of(it), Some(12));
+        assert!(rt; it.len() == batch.len() && it.crc() == batch.crc());
+        assert!(rt; written(alloc, it)?.as_slice() == stored_at(alloc, &batch, 9)?.as_slice());
+        let records = records_of(alloc, it)?;
+        assert_eq!(rt; records.len(), 3);
+        assert_eq!(rt; records.get(0).map(|first| first.offset), Some(9));
+        assert_eq!(rt; records.get(2).map(|last| last.offset), Some(11));
     }
     Ok(())
 }

@@ -4,7 +4,7 @@ use msg_admin::{Api, ApiKey, Header, Reply, read_request, write_reply, write_req
 use msg_data::ProduceReply;
 use std::alloc::Global;
 use std::test::Fail;
-use wire_types::{Bytes, Items, Malformed, ReadFault};
+use wire_types::{Boxed, Bytes, Items, Malformed, ReadFault};
 
 /// Asks for all topics.
 const ALL_TOPICS: &[u8] =
@@ -40,16 +40,18 @@ fn is_silent(alloc: Global, reply: Reply) -> Option<bool> {
 
 /// Nothing is sent for a Produce with acks 0, a mark and a tick.
 #[test]
-fn silent_replies(rt: HostRuntime) {
+fn silent_replies(rt: HostRuntime) -> Result<(), Fail> {
     let alloc = rt.alloc();
     let produced = ProduceReply {
         topics: Items::new(alloc),
         throttle: 0,
     };
+    let produced = Boxed::new(alloc, produced)?;
     assert!(rt; is_silent(alloc, Reply::SilentProduce(produced)) == Some(true));
     assert!(rt; is_silent(alloc, Reply::Marked { left: 2 }) == Some(true));
     assert!(rt; is_silent(alloc, Reply::Idle) == Some(true));
     assert!(rt; is_silent(alloc, Reply::Ticked { left: 3 }) == Some(true));
+    Ok(())
 }
 
 /// Each api is found by its key in the versions that are served, and in no others.

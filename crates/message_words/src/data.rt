@@ -32,7 +32,10 @@ impl Fields for ProduceRequest {
             name: "name",
             partitions: "partition_data",
         };
-        sheet.push_nullable("transactional_id", &self.transactional_id)?;
+        match &self.transactional_id {
+            Some(id) => sheet.push_text("transactional_id", id.value())?,
+            None => sheet.push("transactional_id", "null")?,
+        }
         sheet.push_coded("acks", self.acks, acks_name(self.acks))?;
         sheet.push("timeout_ms", self.timeout)?;
         push_topics(sheet, names, self.topics.as_slice())
@@ -197,8 +200,8 @@ impl Fields for PartitionInfo {
         sheet.push_error("error_code", self.error)?;
         sheet.push("partition_index", self.index)?;
         sheet.push("leader_id", self.leader)?;
-        sheet.push_numbers("replica_nodes", self.replicas.as_slice())?;
-        sheet.push_numbers("isr_nodes", self.in_sync.as_slice())
+        sheet.push_numbers("replica_nodes", self.replicas.value().as_slice())?;
+        sheet.push_numbers("isr_nodes", self.in_sync.value().as_slice())
     }
 }
 
@@ -208,14 +211,14 @@ impl Fields for TopicInfo {
         sheet.push_error("error_code", self.error)?;
         sheet.push_text("name", &self.name)?;
         sheet.push("is_internal", self.internal)?;
-        sheet.push_list("partitions", self.partitions.as_slice())
+        sheet.push_list("partitions", self.partitions.value().as_slice())
     }
 }
 
 impl Fields for MetadataReply {
     /// Appends the response: the brokers, the controller and the topics.
     fn push_fields(&self, sheet: &mut Sheet) -> Result<(), AllocError> {
-        sheet.push_list("brokers", self.brokers.as_slice())?;
+        sheet.push_list("brokers", self.brokers.value().as_slice())?;
         sheet.push("controller_id", self.controller)?;
         sheet.push_list("topics", self.topics.as_slice())
     }

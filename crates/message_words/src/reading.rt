@@ -13,7 +13,7 @@ ghost use Rattle.message_words.specs.Reading.{response_at};
 use msg_admin::{Api, ApiKey, Reply};
 use msg_txn::EndTxnReply;
 use std::alloc::Global;
-use wire_types::{Bytes, Cursor, Malformed, ReadFault, Wire};
+use wire_types::{Boxed, Bytes, Cursor, Malformed, ReadFault, Wire};
 
 /// Reads a response's header, and gives its correlation id. In a flexible version (KIP-482) tagged fields follow it, which are
 /// skipped.
@@ -53,7 +53,10 @@ fn read_form(
         ApiKey::InitProducerId => Reply::InitProducerId(Wire::read(alloc, cursor)?),
         ApiKey::AddPartitionsToTxn => Reply::AddPartitionsToTxn(Wire::read(alloc, cursor)?),
         ApiKey::AddOffsetsToTxn => Reply::AddOffsetsToTxn(Wire::read(alloc, cursor)?),
-        ApiKey::EndTxn => Reply::EndTxn(EndTxnReply::read(alloc, version, cursor)?),
+        ApiKey::EndTxn => {
+            let body = EndTxnReply::read(alloc, version, cursor)?;
+            Reply::EndTxn(Boxed::new(alloc, body)?)
+        }
         ApiKey::TxnOffsetCommit => Reply::TxnOffsetCommit(Wire::read(alloc, cursor)?),
         ApiKey::DescribeAcls => Reply::DescribeAcls(Wire::read(alloc, cursor)?),
         ApiKey::CreateAcls => Reply::CreateAcls(Wire::read(alloc, cursor)?),

@@ -27,33 +27,33 @@ use msg_txn::{
 use std::alloc::Global;
 use wire_types::{Boxed, Bytes, Wire, WriteFault};
 
-/// What an event is answered. Only the answers to requests are sent, and of these not `SilentProduce`. The larger bodies stand in
-/// blocks of their own, so that a reply is small where it is kept.
+/// What an event is answered. Only the answers to requests are sent, and of these not `SilentProduce`. Bodies of more than eight
+/// bytes stand in blocks of their own, so that a reply is small where it is kept.
 #[derive(PartialEq, Eq)]
 pub enum Reply {
-    Produce(ProduceReply),
+    Produce(Boxed<ProduceReply>),
     /// The answer to a Produce with acks 0: it is kept, and no bytes are sent.
-    SilentProduce(ProduceReply),
-    Fetch(FetchReply),
-    ListOffsets(ListOffsetsReply),
+    SilentProduce(Boxed<ProduceReply>),
+    Fetch(Boxed<FetchReply>),
+    ListOffsets(Boxed<ListOffsetsReply>),
     Metadata(Boxed<MetadataReply>),
-    OffsetCommit(OffsetCommitReply),
-    OffsetFetch(OffsetFetchReply),
+    OffsetCommit(Boxed<OffsetCommitReply>),
+    OffsetFetch(Boxed<OffsetFetchReply>),
     FindCoordinator(Boxed<FindCoordinatorReply>),
     JoinGroup(Boxed<JoinGroupReply>),
     Heartbeat(HeartbeatReply),
     LeaveGroup(LeaveGroupReply),
     SyncGroup(Boxed<SyncGroupReply>),
-    SaslHandshake(SaslHandshakeReply),
-    ApiVersions(ApiVersionsReply),
-    InitProducerId(InitProducerIdReply),
-    AddPartitionsToTxn(AddPartitionsToTxnReply),
+    SaslHandshake(Boxed<SaslHandshakeReply>),
+    ApiVersions(Boxed<ApiVersionsReply>),
+    InitProducerId(Boxed<InitProducerIdReply>),
+    AddPartitionsToTxn(Boxed<AddPartitionsToTxnReply>),
     AddOffsetsToTxn(AddOffsetsToTxnReply),
-    EndTxn(EndTxnReply),
-    TxnOffsetCommit(TxnOffsetCommitReply),
+    EndTxn(Boxed<EndTxnReply>),
+    TxnOffsetCommit(Boxed<TxnOffsetCommitReply>),
     DescribeAcls(Boxed<DescribeAclsReply>),
-    CreateAcls(CreateAclsReply),
-    DeleteAcls(DeleteAclsReply),
+    CreateAcls(Boxed<CreateAclsReply>),
+    DeleteAcls(Boxed<DeleteAclsReply>),
     SaslAuthenticate(Boxed<SaslAuthenticateReply>),
     /// A transaction marker was written, and so many are still pending. It isn't sent.
     Marked { left: u64 },
@@ -173,7 +173,7 @@ fn write_response(alloc: Global, correlation: i32, reply: &Reply) -> Result<Byte
         Reply::InitProducerId(body) => write_as(alloc, ApiKey::InitProducerId, to, body),
         Reply::AddPartitionsToTxn(body) => write_as(alloc, ApiKey::AddPartitionsToTxn, to, body),
         Reply::AddOffsetsToTxn(body) => write_as(alloc, ApiKey::AddOffsetsToTxn, to, body),
-        Reply::EndTxn(body) => write_ended(alloc, correlation, body),
+        Reply::EndTxn(body) => write_ended(alloc, correlation, body.value()),
         Reply::TxnOffsetCommit(body) => write_as(alloc, ApiKey::TxnOffsetCommit, to, body),
         Reply::DescribeAcls(body) => write_as(alloc, ApiKey::DescribeAcls, to, body),
         Reply::CreateAcls(body) => write_as(alloc, ApiKey::CreateAcls, to, body),

@@ -10,11 +10,9 @@ mod isolation;
 mod list_offsets;
 mod metadata;
 mod produce;
-mod shared_items;
 
 pub use fetch::{AbortedTransaction, FetchPartition, FetchReply, FetchRequest, FetchedRecords};
 pub use isolation::Isolation;
 pub use list_offsets::{FoundOffset, ListOffsetsReply, ListOffsetsRequest, WantedOffset};
 pub use metadata::{BrokerInfo, MetadataReply, MetadataRequest, PartitionInfo, TopicInfo};
 pub use produce::{ProduceReply, ProduceRequest, ProducedOffset, ProducedRecords};
-pub use shared_items::SharedItems;

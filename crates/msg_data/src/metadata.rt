@@ -1,9 +1,8 @@
 //! Metadata, version 1: the brokers of the cluster, and topics with their partitions.
 
-use crate::shared_items::SharedItems;
 use std::alloc::Global;
 use wire_types::{
-    Cursor, ErrorCode, Items, ReadFault, Text, Wire, WriteFault, deduct, deduct_array,
+    Cursor, ErrorCode, Items, ReadFault, Shared, Text, Wire, WriteFault, deduct, deduct_array,
     deduct_nullable, deduct_nullable_array, deduct_string, read_array, read_nullable_array,
     write_array, write_bool, write_i32, write_nullable, write_nullable_array, write_string,
 };
@@ -29,8 +28,8 @@ pub struct PartitionInfo {
     pub error: ErrorCode,
     pub index: i32,
     pub leader: i32,
-    pub replicas: SharedItems<i32>,
-    pub in_sync: SharedItems<i32>,
+    pub replicas: Shared<Items<i32>>,
+    pub in_sync: Shared<Items<i32>>,
 }
 
 /// A topic with its partitions, or with an error and none.
@@ -39,13 +38,13 @@ pub struct TopicInfo {
     pub error: ErrorCode,
     pub name: Text,
     pub internal: bool,
-    pub partitions: SharedItems<PartitionInfo>,
+    pub partitions: Shared<Items<PartitionInfo>>,
 }
 
 /// The brokers of the cluster, which of them is the controller, and the topics that were asked for.
 #[derive(Drop, PartialEq, Eq)]
 pub struct MetadataReply {
-    pub brokers: SharedItems<BrokerInfo>,
+    pub brokers: Shared<Items<BrokerInfo>>,
     pub controller: i32,
     pub topics: Items<TopicInfo>,
 }
@@ -113,8 +112,8 @@ impl Wire for PartitionInfo {
         let error = ErrorCode::read(alloc, cursor)?;
         let index = cursor.read_i32()?;
         let leader = cursor.read_i32()?;
-        let replicas = SharedItems::read(alloc, cursor)?;
-        let in_sync = SharedItems::read(alloc, cursor)?;
+        let replicas = Shared::read(alloc, cursor)?;
+        let in_sync = Shared::read(alloc, cursor)?;
         Ok(PartitionInfo {
             error,
             index,
@@ -151,7 +150,7 @@ impl Wire for TopicInfo {
         let error = ErrorCode::read(alloc, cursor)?;
         let name = cursor.read_string(alloc)?;
         let internal = cursor.read_bool()?;
-        let partitions = SharedItems::read(alloc, cursor)?;
+        let partitions = Shared::read(alloc, cursor)?;
         Ok(TopicInfo {
             error,
             name,
@@ -182,7 +181,7 @@ impl Wire for MetadataReply {
     ghost grammar = { metadata_reply };
 
     fn read(alloc: Global, cursor: &mut Cursor<'_>) -> Result<MetadataReply, ReadFault> {
-        let brokers = SharedItems::read(alloc, cursor)?;
+        let brokers = Shared::read(alloc, cursor)?;
         let controller = cursor.read_i32()?;
         let topics = read_array(alloc, cursor)?;
         Ok(MetadataReply {

@@ -3,15 +3,16 @@
 ghost use Rattle.std.specs.Io.{StartsWith};
 ghost use Rattle.std.specs.Prelude.{◌≡◌, OnErr};
 ghost use Rattle.wire_types.specs.Reading.{Reads};
-ghost use Rattle.wire_types.specs.Schema.{nullable_bytes};
+ghost use Rattle.wire_types.specs.Schema.{nullable_bytes, nullable_string};
 ghost use Rattle.wire_types.specs.Writing.{Puts};
 
 use record_batch::SentBatch;
 use std::alloc::Global;
 use wire_types::{
-    Cursor, ErrorCode, Items, ReadFault, Text, Topic, Wire, WriteFault, deduct, deduct_array,
-    deduct_bytes, deduct_nullable, deduct_nullable_bytes, read_array, write_array, write_bytes,
-    write_i16, write_i32, write_i64, write_nullable, write_nullable_bytes,
+    Boxed, Cursor, ErrorCode, Items, ReadFault, Text, Topic, Wire, WriteFault, deduct,
+    deduct_array, deduct_bytes, deduct_nullable, deduct_nullable_bytes, deduct_string, read_array,
+    write_array, write_bytes, write_i16, write_i32, write_i64, write_nullable,
+    write_nullable_bytes, write_string,
 };
 
 /// A partition and the batch to append there, None where the records are null. `SentBatch` holds the first fault of a bad one.
@@ -25,7 +26,8 @@ pub struct ProducedRecords {
 /// ignored.
 #[derive(Drop, PartialEq, Eq)]
 pub struct ProduceRequest {
-    pub transactional_id: Option<Text>,
+    /// In a block of its own, since most requests have none.
+    pub transactional_id: Option<Boxed<Text>>,
     pub acks: i16,
     pub timeout: i32,
     pub topics: Items<Topic<ProducedRecords>>,
@@ -84,6 +86,45 @@ fn deduct_records(records: &Option<SentBatch>, budget: usize) -> Option<usize>
     }
 }
 
+/// Reads a transactional id, or None for null. The error is `Malformed`, or an allocation failure.
+fn read_transactional_id(
+    alloc: Global,
+    cursor: &mut Cursor<'_>,
+) -> Result<Option<Boxed<Text>>, ReadFault>
+    ensures { Reads (nullable_string.reading cursor.old) result cursor.new }
+{
+    match cursor.read_nullable(alloc)? {
+        Some(id) => Ok(Some(Boxed::new(alloc, id)?)),
+        None => Ok(None),
+    }
+}
+
+/// Appends a transactional id, or null for None. `TooLong` where it is too long for its length field. An error leaves `out` as it
+/// was.
+#[tactic(auto, unfolding(wire_types::specs::Spelling::after_count_fits, wire_types::specs::Spelling::after_null_count_fits, wire_types::specs::Spelling::after_null_count_put, wire_types::specs::Spelling::null_count_fits, wire_types::specs::Spelling::compact_null_count_fits))]
+fn write_transactional_id(out: &mut Vec<u8>, id: &Option<Boxed<Text>>) -> Result<(), WriteFault>
+    ensures spelled { Puts nullable_string id.now out.old.items result out.new.items }
+    ensures err { OnErr result (out.new.items ≡ out.old.items) }
+    ensures grown { StartsWith out.new.items out.old.items }
+{
+    match id {
+        Some(id) => write_string(out, id.value()),
+        None => write_nullable(out, &None),
+    }
+}
+
+/// How many of `budget` bytes are left after a transactional id, or null. None where it needs more, or is too long for its
+/// length field.
+#[tactic(auto, unfolding(wire_types::specs::Spelling::after_null_count_left, wire_types::specs::Spelling::null_count_fits))]
+fn deduct_transactional_id(id: &Option<Boxed<Text>>, budget: usize) -> Option<usize>
+    ensures { result ≡ nullable_string.left id.now budget }
+{
+    match id {
+        Some(id) => deduct_string(id.value(), budget),
+        None => deduct_nullable(&None, budget),
+    }
+}
+
 impl Wire for ProducedRecords {
     ghost use Rattle.msg_data.specs.Produce.{produced_records};
 
@@ -113,7 +154,7 @@ impl Wire for ProduceRequest {
     ghost grammar = { produce_request };
 
     fn read(alloc: Global, cursor: &mut Cursor<'_>) -> Result<ProduceRequest, ReadFault> {
-        let transactional_id = cursor.read_nullable(alloc)?;
+        let transactional_id = read_transactional_id(alloc, cursor)?;
         let acks = cursor.read_i16()?;
         let timeout = cursor.read_i32()?;
         let topics = read_array(alloc, cursor)?;
@@ -126,7 +167,7 @@ impl Wire for ProduceRequest {
     }
 
     fn put(&self, out: &mut Vec<u8>) -> Result<(), WriteFault> {
-        write_nullable(out, &self.transactional_id)?;
+        write_transactional_id(out, &self.transactional_id)?;
         write_i16(out, self.acks)?;
         write_i32(out, self.timeout)?;
         write_array(out, &self.topics)?;
@@ -134,7 +175,7 @@ impl Wire for ProduceRequest {
     }
 
     fn deduct_from(&self, budget: usize) -> Option<usize> {
-        let budget = deduct_nullable(&self.transactional_id, budget)?;
+        let budget = deduct_transactional_id(&self.transactional_id, budget)?;
         let budget = deduct(2, budget)?;
         let budget = deduct(4, budget)?;
         deduct_array(&self.topics, budget)

@@ -115,10 +115,11 @@ impl ProducerEntry {
     pub(crate) fn judge(&self, batch: &Batch) -> Judgment
         ensures { result ≡ judgment_by_state (Some self.now) batch.now }
     {
-        if batch.producer_epoch() < self.epoch {
+        let epoch = batch.producer_epoch();
+        if epoch < self.epoch {
             return Judgment::Refused(ErrorCode::InvalidProducerEpoch);
         }
-        if batch.producer_epoch() > self.epoch {
+        if epoch > self.epoch {
             return begun(batch);
         }
         match find_repeat(&self.latest, batch) {

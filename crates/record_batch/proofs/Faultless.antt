@@ -1,5 +1,5 @@
 -- Bytes without a fault are a batch.
-use Rattle.std.proofs.Common.{◌≡◌, ℕ, zero, suc, ℤ, pos, negsuc, ◌+◌, ◌-◌, ◌≤◌, Bool, true, false, ◌&&◌, not, cond, eqb, leb, List, length, drop, Option, Some, None, Result, Ok, Err, refl, sym, ap, subst, ◌∙◌, arith}
+use Rattle.std.proofs.Common.{◌≡◌, ℕ, zero, suc, ℤ, pos, negsuc, ◌+◌, ◌-◌, ◌≤◌, Bool, true, false, ◌&&◌, not, cond, eqb, leb, List, length, drop, Option, Some, None, Result, Ok, Err, refl, sym, ap, ◌∙◌, arith}
 use Rattle.std.specs.Prelude.{◌-ℤ◌, slice_range, int_lt, is_ok, nat_lt}
 use Rattle.std.specs.Ordering.{int_eq}
 use Rattle.std.proofs.Math.IntN.{ -ℤ_one}
@@ -133,7 +133,3 @@ pub faultless : (max : ℕ) (bytes : List ℕ) (h : BatchHeader) → batch_heade
 unfolding first_fault
 faultless max bytes h e none =
     is_batch max bytes h e (passes max bytes h (drop 61 bytes) (sym (ap (fault_after_header max bytes) e) ∙ none))
-
-pub checked_batch : (max : ℕ) (bytes seen : List ℕ) (h : BatchHeader) → seen ≡ bytes → None ≡ first_fault max seen → batch_header.reading seen ≡ Ok (h, drop 61 seen) → IsBatch (batch_of h None bytes)
-checked_batch max bytes seen h same none e =
-    subst (λ (t : List ℕ). IsBatch (batch_of h None t)) same (faultless max seen h e (sym none))

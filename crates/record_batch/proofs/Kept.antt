@@ -1,5 +1,5 @@
 -- What every batch keeps: its records are those that its bytes are read as.
-use Rattle.std.proofs.Common.{◌≡◌, ℕ, pos, ◌≤◌, List, [], length, drop, Option, Ok, Err, sym, ap, subst, ◌∙◌, arith}
+use Rattle.std.proofs.Common.{◌≡◌, ℕ, pos, ◌≤◌, List, [], length, drop, Ok, Err, sym, ap, subst, ◌∙◌, arith}
 use Rattle.std.specs.Prelude.{slice_range, FitsSigned, ◌+ℤ◌}
 use Rattle.std.specs.Int.{w64}
 use Rattle.std.proofs.lemmas.List.{length-append, append-nil, drop_at}
@@ -8,12 +8,10 @@ use Rattle.wire_types.specs.NumberLaws.{ok_is}
 use Rattle.wire_types.specs.declared.fault.ReadFault.{ReadFault}
 use Rattle.wire_types.specs.declared.fault.ReadFault.TheVariants as faults
 use Rattle.wire_types.specs.Reading.{Found, Reads}
-use Rattle.record_batch.specs.declared.header.BatchHeader.{BatchHeader}
-use Rattle.record_batch.specs.declared.transaction_result.TransactionResult.{TransactionResult}
 use Rattle.record_batch.specs.declared.record.RecordAt.{RecordAt}
-use Rattle.record_batch.specs.BatchHeader.{count_of}
+use Rattle.record_batch.specs.BatchHeader.{batch_header, count_of}
 use Rattle.record_batch.specs.Record.{records_at}
-use Rattle.record_batch.specs.Batch.{BatchData, IsBatch, HasOffsets, batch_of, placed_records, placed_if_found}
+use Rattle.record_batch.specs.Batch.{BatchData, IsBatch, HasOffsets, placed_records, placed_if_found}
 use Rattle.record_batch.proofs.Checked.{rest_is}
 use Rattle.record_batch.proofs.HeaderLaws.{header_size}
 use Rattle.record_batch.proofs.Offsets.{after_last}
@@ -27,6 +25,10 @@ batch_long b is = omega (arith, front_long b is, length-append is.front is.body,
 
 pub body_is : (b : BatchData) (is : IsBatch b) → drop 61 b.bytes ≡ is.body
 body_is b is = ap (drop 61) is.parts ∙ drop_at is.front is.body 61 (front_long b is)
+
+pub header_read : (b : BatchData) → IsBatch b → batch_header.reading b.bytes ≡ Ok (b.header, drop 61 b.bytes)
+header_read b is =
+    ap batch_header.reading is.parts ∙ batch_header.complete is.front is.body b.header is.headed ∙ ap (λ (t : List ℕ). Ok (b.header, t)) (sym (body_is b is))
 
 pub records_read : (b : BatchData) → IsBatch b → records_at 0 (count_of b.header.record_count) (slice_range b.bytes 61 (length b.bytes)) ≡ Ok (b.records, [])
 records_read b is =
@@ -43,27 +45,14 @@ offsets_fit b is fits =
 abbrev pub read_of : BatchData → Found (List RecordAt)
 read_of b = placed_if_found b.header.base_offset 0 (records_at 0 (count_of b.header.record_count) (slice_range b.bytes 61 (length b.bytes)))
 
-abbrev all_of : BatchData → List RecordAt × List ℕ
+abbrev pub all_of : BatchData → List RecordAt × List ℕ
 all_of b = (placed_records b.header.base_offset 0 b.records, [])
 
-read_all : (b : BatchData) → IsBatch b → read_of b ≡ Ok (all_of b)
+pub read_all : (b : BatchData) → IsBatch b → read_of b ≡ Ok (all_of b)
 read_all b is = ap (placed_if_found b.header.base_offset 0) (records_read b is)
 
 apart : {A : Type 0} (x : A) (m : Malformed) → Ok x ≡ Err m → ⊥
 apart x m e = absurd cc
-
--- the values of a call that reads the records
-pub record IsRead (h : BatchHeader) (bytes : List ℕ) (count len : ℕ) (part seen : List ℕ) : Type 0 where
-  pub counted : count ≡ count_of h.record_count
-  pub long : len ≡ length bytes
-  pub behind : part ≡ slice_range bytes 61 len
-  pub over : seen ≡ part
-
-pub read_is : (h : BatchHeader) (m : Option TransactionResult) (bytes : List ℕ) (count len : ℕ) (part seen : List ℕ) → IsRead h bytes count len part seen
-    → placed_if_found h.base_offset 0 (records_at 0 count seen) ≡ read_of (batch_of h m bytes)
-read_is h m bytes count len part seen is =
-    let there : seen ≡ slice_range bytes 61 (length bytes) = is.over ∙ is.behind ∙ ap (slice_range bytes 61) is.long in
-    ap (λ (n : ℕ). placed_if_found h.base_offset 0 (records_at 0 n seen)) is.counted ∙ ap (λ (t : List ℕ). placed_if_found h.base_offset 0 (records_at 0 (count_of h.record_count) t)) there
 
 pub recs_placed : (b now : BatchData) (found : Found (List RecordAt)) (recs : List RecordAt) (rest : List ℕ) → IsBatch b → b ≡ now → found ≡ read_of b → found ≡ Ok (recs, rest)
     → recs ≡ placed_records now.header.base_offset 0 now.records

@@ -22,15 +22,11 @@ use Rattle.record_batch.specs.Laws.{OneBatch, FaultlessIsBatch, LastOffsetStays,
 use Rattle.record_batch.proofs.Checked.{rest_is}
 use Rattle.record_batch.proofs.Faultless.{passes, is_batch}
 use Rattle.record_batch.proofs.HeaderLaws.{header_rest}
-use Rattle.record_batch.proofs.Kept.{body_is, batch_long, records_read}
+use Rattle.record_batch.proofs.Kept.{body_is, batch_long, header_read, records_read}
 use Rattle.record_batch.proofs.RecordLaws.{all-complete}
 use Rattle.record_batch.proofs.Moved.{parts_of, Parts, middle_is, bytes_with_offset-is, same_rest, same_after, same_length, moved_parts, written_at-is}
 
 -- ---- one batch
-
-header_read : (b : BatchData) → IsBatch b → batch_header.reading b.bytes ≡ Ok (b.header, drop 61 b.bytes)
-header_read b is =
-    ap batch_header.reading is.parts ∙ batch_header.complete is.front is.body b.header is.headed ∙ ap (λ (t : List ℕ). Ok (b.header, t)) (sym (body_is b is))
 
 abbrev front_of : BatchHeader → List ℕ → BatchHeader × List ℕ
 front_of h rest = (h, rest)

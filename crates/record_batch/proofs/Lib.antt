@@ -13,4 +13,5 @@ pub mod Kept
 pub mod Moved
 pub mod Marked
 pub mod Lawful
+pub mod Placed
 pub mod Sized

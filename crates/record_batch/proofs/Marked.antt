@@ -1,4 +1,5 @@
 -- A control batch is a batch.
+use Rattle.std.specs.Prelude.{Result, Ok, Err, OnOk}
 use Rattle.std.proofs.Common.{◌≡◌, ℕ, ℤ, pos, negsuc, ◌-◌, ◌<◌, ◌^◌, List, [], ◌∷◌, ◌++◌, length, drop, Some, Ok, refl, sym, ap, subst, ◌∙◌, append_assoc, arith, lit<}
 use Rattle.std.specs.Prelude.{FitsSigned, slice_range}
 use Rattle.std.specs.Int.{w16, w64}
@@ -155,3 +156,7 @@ made_view o p e m p' e' m' header text bytes fp fe fm fc sp se sm is_header is_t
     let view : batch_of header (Some o) bytes ≡ control o p e m =
     ap (λ (h : BatchHeader). batch_of h (Some o) bytes) head ∙ ap (batch_of (control o p e m).header (Some o)) all ∙ control_view o p e m fits in
     (view, subst IsBatch (sym view) (control_is o p e m fits))
+
+pub on_ok : {A E : Type 0} (r : Result A E) (P : Type 0) → P → OnOk r P
+on_ok (Ok x) P p = p
+on_ok (Err e) P p = tt

@@ -1,5 +1,5 @@
 -- A batch at another offset is one.
-use Rattle.std.proofs.Common.{◌≡◌, ℕ, ℤ, pos, ◌+◌, ◌-◌, ◌≤◌, List, [], ◌++◌, length, take, drop, Option, Some, None, refl, sym, ap, subst, ◌∙◌, append_assoc, arith, lit<}
+use Rattle.std.proofs.Common.{◌≡◌, ℕ, ℤ, pos, ◌+◌, ◌-◌, ◌≤◌, List, ◌++◌, length, take, drop, Option, Some, None, refl, sym, ap, ◌∙◌, append_assoc, arith, lit<}
 use Rattle.std.specs.Prelude.{slice_range, FitsSigned}
 use Rattle.std.specs.Int.{w32, w64, cast_unsigned}
 use Rattle.std.proofs.lemmas.List.{take_at, drop_at, length-append, drop-drop, drop-take, take-take}
@@ -10,10 +10,8 @@ use Rattle.record_batch.specs.declared.header.BatchHeader.{BatchHeader}
 use Rattle.record_batch.specs.declared.transaction_result.TransactionResult.{TransactionResult}
 use Rattle.record_batch.specs.declared.record.Rec.{Rec}
 use Rattle.record_batch.specs.Crc.{crc32c}
-use Rattle.record_batch.specs.BatchHeader.{header_at, count_of}
-use Rattle.record_batch.specs.Record.{all_records}
-use Rattle.record_batch.specs.Batch.{BatchData, IsBatch, IsMarked, batch_of, found_or_none, bytes_with_offset, written_at}
-use Rattle.record_batch.proofs.Checked.{rest_is}
+use Rattle.record_batch.specs.BatchHeader.{header_at}
+use Rattle.record_batch.specs.Batch.{BatchData, IsBatch, IsMarked, bytes_with_offset, written_at}
 
 -- the bytes of a batch, parted where another offset and leader epoch are put
 pub record Parts (bytes : List ℕ) : Type 0 where
@@ -102,12 +100,6 @@ same_length offset bytes p =
       length-append p.epoch p.rest,
     )
 
-pub same_view : (offset : ℤ) (h : BatchHeader) (m : Option TransactionResult) (bytes : List ℕ) → IsBatch (batch_of h m bytes)
-    → batch_of (header_at offset h) m (bytes_with_offset offset bytes) ≡ written_at offset (batch_of h m bytes)
-same_view offset h m bytes is =
-    let body : drop 61 (bytes_with_offset offset bytes) ≡ drop 61 bytes = same_after 61 offset bytes (parts_of (batch_of h m bytes) is) (omega arith) in
-    ap (λ (t : List ℕ). record { header = header_at offset h; records = found_or_none (all_records (count_of h.record_count) t); marker = m; bytes = bytes_with_offset offset bytes }) body
-
 -- the same parts of the bytes at another offset
 abbrev pub moved_parts : (offset : ℤ) (b : BatchData) → IsBatch b → Parts (bytes_with_offset offset b.bytes)
 moved_parts offset b is =
@@ -163,23 +155,3 @@ gathered o bytes front moved new e0 e1 e2 =
     let inner : take 4 (drop 8 (take 16 bytes)) ≡ take 4 (drop 8 bytes) = ap (take 4) (drop-take 8 8 bytes) ∙ take-take 4 8 (drop 8 bytes) (omega arith) in
     let size : slice_range front 8 12 ≡ slice_range bytes 8 12 = ap (λ (t : List ℕ). slice_range t 8 12) e0 ∙ inner in
     rw (e2, e1, size) (simp append_assoc)
-
--- the values of a call that moves a batch
-pub record IsMoved (offset o : ℤ) (h new : BatchHeader) (bytes seen moved : List ℕ) : Type 0 where
-  pub fits : FitsSigned w64 offset
-  pub same : o ≡ offset
-  pub header : new ≡ header_at o h
-  pub over : seen ≡ bytes
-  pub put : moved ≡ bytes_with_offset o seen
-
-pub moved_view : (offset o : ℤ) (h new : BatchHeader) (m : Option TransactionResult) (bytes seen moved : List ℕ) → IsMoved offset o h new bytes seen moved → IsBatch (batch_of h m bytes)
-    → batch_of new m moved ≡ written_at offset (batch_of h m bytes)
-moved_view offset o h new m bytes seen moved is batch =
-    let header : new ≡ header_at offset h = is.header ∙ ap (λ (z : ℤ). header_at z h) is.same in
-    let put : moved ≡ bytes_with_offset offset bytes = is.put ∙ ap (bytes_with_offset o) is.over ∙ ap (λ (z : ℤ). bytes_with_offset z bytes) is.same in
-    ap (λ (x : BatchHeader). batch_of x m moved) header ∙ ap (batch_of (header_at offset h) m) put ∙ same_view offset h m bytes batch
-
-pub moved_is : (offset o : ℤ) (h new : BatchHeader) (m : Option TransactionResult) (bytes seen moved : List ℕ) → IsMoved offset o h new bytes seen moved → IsBatch (batch_of h m bytes)
-    → IsBatch (batch_of new m moved)
-moved_is offset o h new m bytes seen moved is batch =
-    subst IsBatch (sym (moved_view offset o h new m bytes seen moved is batch)) (written_at-is offset (batch_of h m bytes) is.fits batch)

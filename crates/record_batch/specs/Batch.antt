@@ -35,6 +35,33 @@ batch_of header marker bytes = record {
   bytes = bytes;
 }
 
+-- a header that was found; where none was, so that the bytes are no batch, one of zeros
+abbrev pub found_header : Found BatchHeader → BatchHeader
+found_header (Ok found) = found.0
+found_header (Err e) = record {
+  base_offset = pos 0;
+  batch_length = pos 0;
+  partition_leader_epoch = pos 0;
+  magic = pos 0;
+  crc = 0;
+  attributes = pos 0;
+  last_offset_delta = pos 0;
+  base_timestamp = pos 0;
+  max_timestamp = pos 0;
+  producer_id = pos 0;
+  producer_epoch = pos 0;
+  base_sequence = pos 0;
+  record_count = pos 0;
+}
+
+-- the header that bytes begin with
+unfoldable pub header_in : List ℕ → BatchHeader
+header_in bytes = found_header (batch_header.reading bytes)
+
+-- the batch in these bytes
+abbrev pub batch_of_bytes : Option TransactionResult → List ℕ → BatchData
+batch_of_bytes marker bytes = batch_of (header_in bytes) marker bytes
+
 -- ---- which bytes are a batch
 
 -- the record of a control batch that ends a transaction: a version 0 and the outcome in its key, a version 0 and a
@@ -116,3 +143,8 @@ written_at offset b = record b {
   header = header_at offset b.header;
   bytes = bytes_with_offset offset b.bytes;
 }
+
+-- where it has a place in a log, and else as it is
+abbrev pub batch_placed : Option ℤ → BatchData → BatchData
+batch_placed None b = b
+batch_placed (Some offset) b = written_at offset b

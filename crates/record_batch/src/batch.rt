@@ -1,6 +1,6 @@
-//! Batches: bytes that were found to be one, with their header read once.
+//! Batches: bytes that were found to be one, and the offset at which they stand in a log.
 
-ghost use Rattle.std.specs.Prelude.{◌≡◌, ◌↔◌, IsTrue, ◌+ℤ◌, ◌++◌, pos, drop, slice_range, IfOk, Ok, None};
+ghost use Rattle.std.specs.Prelude.{◌≡◌, ◌↔◌, IsTrue, ◌+ℤ◌, ◌++◌, pos, drop, length, slice_range, IfOk, Ok, None};
 ghost use Rattle.wire_types.specs.Schema.{int32, int64};
 ghost use Rattle.record_batch.specs.Batch.{BatchData, IsBatch, HasOffsets, next_offset, placed_records, written_at};
 ghost use Rattle.record_batch.specs.Control.{control};
@@ -17,30 +17,38 @@ use std::alloc::{AllocError, Global};
 use std::marker::Model;
 use wire_types::{Bytes, Cursor, Items, Piece, ReadFault};
 
-/// A record batch of message format 2, of data or a control batch, whose header is kept as it was read from the bytes. Contracts
-/// see it as its header, its records, its outcome and its bytes.
+/// A record batch of message format 2, of data or a control batch. It shares all its bytes with whatever brought them: what a
+/// log writes into a batch, its base offset, stands beside them. Contracts see it as its header, its records, its outcome and
+/// its bytes.
 pub struct Batch {
-    header: BatchHeader,
+    /// The base offset that the log gave it, with the partition leader epoch 0, in place of what the bytes have there. None: as
+    /// in the bytes.
+    placed: Option<i64>,
+    bytes: Bytes,
     marker: Option<TransactionResult>,
-    bytes: Piece,
+    /// The header's, which a search for an offset asks of many batches.
+    last_offset_delta: i32,
 }
 
 impl Model for Batch {
-    ghost use Rattle.record_batch.specs.Batch.{BatchData, IsBatch, batch_of};
+    ghost use Rattle.std.specs.Prelude.{◌≡◌, IfSome, FitsSigned};
+    ghost use Rattle.std.specs.Int.{w64};
+    ghost use Rattle.record_batch.specs.Batch.{BatchData, IsBatch, batch_of_bytes, batch_placed};
 
     ghost Value = { BatchData };
 
-    ghost view = { λ b. batch_of b.header b.marker b.bytes };
+    ghost view = { λ b. batch_placed b.placed (batch_of_bytes b.marker b.bytes) };
 
-    ghost invariant = { λ b. IsBatch (batch_of b.header b.marker b.bytes) };
+    ghost invariant = { λ b. IsBatch (batch_of_bytes b.marker b.bytes) × IfSome b.placed (FitsSigned w64) × (b.last_offset_delta ≡ (batch_of_bytes b.marker b.bytes).header.last_offset_delta) };
 }
 
 impl Drop for Batch {
     fn drop(self) {
         let Batch {
-            header: _,
-            marker: _,
+            placed: _,
             bytes: _bytes,
+            marker: _,
+            last_offset_delta: _,
         } = self;
     }
 }
@@ -57,15 +65,16 @@ impl Batch {
 
     /// The data batch of these bytes, unchecked: the caller has to have read `header` from them, and to have found no fault in
     /// them.
-    pub(crate) fn faultless(header: BatchHeader, bytes: Bytes) -> Batch
-        requires header { batch_header.reading bytes ≡ Ok (header, drop 61 bytes) }
+    pub(crate) fn faultless(header: &BatchHeader, bytes: Bytes) -> Batch
+        requires header { batch_header.reading bytes ≡ Ok (header.now, drop 61 bytes) }
         requires fault { fault_at_any_size bytes ≡ None }
         ensures { (result.bytes ≡ bytes) × (result.marker ≡ None) × IsBatch result }
     {
         Batch {
-            header,
+            placed: None,
+            bytes,
             marker: None,
-            bytes: Piece::of(bytes),
+            last_offset_delta: header.last_offset_delta,
         }
     }
 
@@ -81,28 +90,64 @@ impl Batch {
         ensures value { IfOk result (λ b. b ≡ control outcome producer epoch moment) }
         ensures batch { IfOk result IsBatch }
     {
-        let (header, text) = control_batch(alloc, outcome, producer, epoch, moment)?;
-        let bytes = Bytes::from_vec(text)?;
+        let text = control_batch(alloc, outcome, producer, epoch, moment)?;
         Ok(Batch {
-            header,
+            placed: None,
+            bytes: Bytes::from_vec(text)?,
             marker: Some(outcome),
-            bytes: Piece::of(bytes),
+            last_offset_delta: 0,
         })
     }
 
-    /// The batch's bytes, header and records, as they are stored and served.
-    pub fn bytes(&self) -> &Piece
-        ensures bytes { result.now ≡ self.now.bytes }
-        ensures batch { IsBatch self.now }
+    /// The batch's bytes as they are served, header and records, with the base offset that the log gave it. An error comes only
+    /// where the count of owners is full.
+    pub fn piece(&self) -> Result<Piece, AllocError>
+        ensures { IfOk result (λ piece. piece ≡ self.now.bytes) }
     {
-        &self.bytes
+        let whole = Piece::of(self.bytes.clone()?);
+        match self.placed {
+            Some(offset) => whole.with_front(front_at(offset, &whole.front())),
+            None => Ok(whole),
+        }
     }
 
-    /// The batch's header, as it was read from the bytes.
-    pub fn header(&self) -> &BatchHeader
-        ensures { result.now ≡ self.now.header }
+    /// The number of the batch's bytes.
+    pub fn len(&self) -> usize
+        ensures len { result ≡ length self.now.bytes }
+        ensures batch { IsBatch self.now }
     {
-        &self.header
+        self.bytes.len()
+    }
+
+    /// The batch's header, which is read from the bytes.
+    pub fn header(&self) -> BatchHeader
+        ensures { result ≡ self.now.header }
+    {
+        let Some(header) = BatchHeader::first_of(self.bytes.as_slice()) else {
+            unreachable!();
+        };
+        match self.placed {
+            Some(offset) => header.at(offset),
+            None => header,
+        }
+    }
+
+    /// The offset of the first record.
+    pub fn base_offset(&self) -> i64
+        ensures { result ≡ self.now.header.base_offset }
+    {
+        match self.placed {
+            Some(offset) => offset,
+            None => self.header().base_offset,
+        }
+    }
+
+    /// How far the last record's offset is above the first one's: the record count less one.
+    #[tactic(auto, using(crate::proofs::Placed::delta_stays))]
+    pub fn last_offset_delta(&self) -> i32
+        ensures { result ≡ self.now.header.last_offset_delta }
+    {
+        self.last_offset_delta
     }
 
     /// What a control batch marks: commit or abort. `None` for a data batch.
@@ -117,9 +162,10 @@ impl Batch {
         ensures { IfOk result (λ b. b ≡ self.now) }
     {
         Ok(Batch {
-            header: self.header,
-            marker: self.marker,
+            placed: self.placed,
             bytes: self.bytes.clone()?,
+            marker: self.marker,
+            last_offset_delta: self.last_offset_delta,
         })
     }
 
@@ -127,7 +173,7 @@ impl Batch {
     pub fn has_offsets(&self) -> bool
         ensures { IsTrue result ↔ HasOffsets self.now }
     {
-        self.header.has_offsets()
+        self.header().has_offsets()
     }
 
     /// Reads the records, with their offsets. Keys, values and headers share the batch's bytes. `has_offsets` has to hold. An
@@ -139,8 +185,8 @@ impl Batch {
     {
         let body = self.bytes.slice(61..self.bytes.len())?;
         let mut cursor = Cursor::over(&body);
-        let count = self.header.count();
-        match read_records(alloc, &mut cursor, &self.header, count) {
+        let header = self.header();
+        match read_records(alloc, &mut cursor, &header, header.count()) {
             Ok(recs) => Ok(recs),
             Err(ReadFault::NoMemory) => Err(AllocError),
             Err(ReadFault::Malformed(_)) => unreachable!(),
@@ -152,23 +198,23 @@ impl Batch {
         requires { HasOffsets self.now }
         ensures { result ≡ next_offset self.now }
     {
-        self.header.next_offset()
+        match self.placed {
+            Some(offset) => offset + (i64::from(self.last_offset_delta) + 1),
+            None => self.header().next_offset(),
+        }
     }
 
-    /// The same batch with its first record at this offset, and with the partition leader epoch 0. All bytes after these two
-    /// fields are shared. The checksum covers neither, so it is still right. An error comes only where the count of owners is
-    /// full.
+    /// The same batch with its first record at this offset, and with the partition leader epoch 0. Its bytes are shared. The
+    /// checksum covers neither field, so it is still right. An error comes only where the count of owners is full.
     pub fn write_at(&self, offset: i64) -> Result<Batch, AllocError>
         ensures value { IfOk result (λ b. b ≡ written_at offset self.now) }
         ensures batch { IfOk result IsBatch }
     {
-        let front = front_at(offset, &self.bytes.front());
-        let bytes = self.bytes.with_front(front)?;
-        let header = self.header.at(offset);
         Ok(Batch {
-            header,
+            placed: Some(offset),
+            bytes: self.bytes.clone()?,
             marker: self.marker,
-            bytes,
+            last_offset_delta: self.last_offset_delta,
         })
     }
 }

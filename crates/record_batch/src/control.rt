@@ -85,23 +85,21 @@ fn control_text(
     Ok(out)
 }
 
-/// The header, with the right checksum, and the bytes of the control batch that marks that this producer's transaction was
-/// committed or aborted. `moment` is its timestamp in milliseconds. An error is an allocation failure.
+/// The bytes of the control batch that marks that this producer's transaction was committed or aborted. `moment` is its
+/// timestamp in milliseconds. An error is an allocation failure.
 pub(crate) fn control_batch(
     alloc: Global,
     outcome: TransactionResult,
     producer: i64,
     epoch: i16,
     moment: i64,
-) -> Result<(BatchHeader, Vec<u8>), AllocError>
-    ensures header { IfOk result (λ made. made.0 ≡ (control outcome producer epoch moment).header) }
-    ensures sum { IfOk result (λ made. made.0.crc < 2 ^ 32) }
-    ensures text { IfOk result (λ made.
-        made.1.items ≡ (control outcome producer epoch moment).bytes) }
+) -> Result<Vec<u8>, AllocError>
+    ensures sum { OnOk result ((control outcome producer epoch moment).header.crc < 2 ^ 32) }
+    ensures text { IfOk result (λ text.
+        text.items ≡ (control outcome producer epoch moment).bytes) }
 {
     let draft = BatchHeader::of_control(producer, epoch, moment);
     let summed = control_text(alloc, outcome, &draft)?;
     let header = draft.with_crc(crc32c(&summed[21..]));
-    let text = control_text(alloc, outcome, &header)?;
-    Ok((header, text))
+    control_text(alloc, outcome, &header)
 }

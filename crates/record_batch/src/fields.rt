@@ -1,4 +1,4 @@
-//! A batch's fields, which are read from its bytes once.
+//! A batch's fields, each of which is read from its bytes when it is asked for.
 
 ghost use Rattle.std.specs.Prelude.{◌≡◌};
 ghost use Rattle.record_batch.specs.BatchHeader.{is_transactional, is_control};
@@ -7,13 +7,6 @@ use crate::batch::Batch;
 use crate::transaction_result::TransactionResult;
 
 impl Batch {
-    /// The offset of the first record.
-    pub fn base_offset(&self) -> i64
-        ensures { result ≡ self.now.header.base_offset }
-    {
-        self.header().base_offset
-    }
-
     /// How many of the batch's bytes follow this field.
     pub fn batch_length(&self) -> i32
         ensures { result ≡ self.now.header.batch_length }
@@ -48,13 +41,6 @@ impl Batch {
         ensures { result ≡ self.now.header.attributes }
     {
         self.header().attributes
-    }
-
-    /// How far the last record's offset is above the first one's: the record count less one.
-    pub fn last_offset_delta(&self) -> i32
-        ensures { result ≡ self.now.header.last_offset_delta }
-    {
-        self.header().last_offset_delta
     }
 
     /// The timestamp in milliseconds that the records' timestamp deltas count from.

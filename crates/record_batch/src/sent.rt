@@ -77,7 +77,7 @@ impl SentBatch {
             return Err(BatchFault::TooLarge);
         }
         match BatchHeader::first_of(bytes.as_slice()) {
-            Some(header) => Ok(Batch::faultless(header, bytes)),
+            Some(header) => Ok(Batch::faultless(&header, bytes)),
             None => unreachable!(),
         }
     }

@@ -23,18 +23,10 @@ use std::alloc::{AllocError, Global};
 use std::io;
 use std::io::Write;
 use std::process::ExitCode;
-use wire_types::{Boxed, Bytes, Shared, Text};
+use wire_types::{Bytes, Shared, Text};
 
 /// The exit status where the core was never opened, or the script can't be read.
 const NOT_BEGUN: u8 = 3;
-
-/// The client id in a block of its own, if there is one. The outer `None` is an allocation failure.
-fn boxed(alloc: Global, client: Option<Text>) -> Option<Option<Boxed<Text>>> {
-    match client {
-        Some(client) => Some(Some(Boxed::new(alloc, client).ok()?)),
-        None => Some(None),
-    }
-}
 
 /// The event of a request of the principal `User:USER` at this host, whose frame comes in hexadecimal digits, without its size
 /// field. `None` where the frame is no request that is served, or after an allocation failure.
@@ -51,10 +43,9 @@ fn asked(alloc: Global, user: &str, host: &str, digits: &str) -> Option<Event>
         host: Text::of(alloc, host).ok()?,
     };
     let caller = Shared::new(alloc, caller).ok()?;
-    let client = boxed(alloc, header.client)?;
     Some(Event::Ask {
         caller,
-        client,
+        client: Shared::new(alloc, header.client).ok()?,
         request,
     })
 }

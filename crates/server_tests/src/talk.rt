@@ -11,7 +11,7 @@ use session_pool::Users;
 use settings_text::{Document, document_of_text};
 use std::alloc::Global;
 use std::test::Fail;
-use wire_types::{Boxed, Bytes, Shared, Text};
+use wire_types::{Bytes, Shared, Text};
 
 /// Ann may log in, and do all with the topic `b`.
 const SETTINGS: &str =
@@ -95,14 +95,6 @@ pub(crate) fn event_of(alloc: Global, digits: &str) -> Option<Event>
     event_by(alloc, "User:ann", digits)
 }
 
-/// The client id in a block of its own, if there is one. The outer `None` is an allocation failure.
-fn boxed(alloc: Global, client: Option<Text>) -> Option<Option<Boxed<Text>>> {
-    match client {
-        Some(client) => Some(Some(Boxed::new(alloc, client).ok()?)),
-        None => Some(None),
-    }
-}
-
 /// As `event_of`, of this principal.
 pub(crate) fn event_by(alloc: Global, who: &str, digits: &str) -> Option<Event>
     ensures { IfSome result EventFits }
@@ -121,7 +113,7 @@ pub(crate) fn event_by(alloc: Global, who: &str, digits: &str) -> Option<Event>
         host: Text::of(alloc, "10.0.0.5").ok()?,
     };
     let caller = Shared::new(alloc, caller).ok()?;
-    let client = boxed(alloc, header.client)?;
+    let client = Shared::new(alloc, header.client).ok()?;
     Some(Event::Ask {
         caller,
         client,

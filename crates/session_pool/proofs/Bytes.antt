@@ -65,6 +65,10 @@ unread None b size front h = tt
 unread (Some xs) None size front h = absurd h
 unread (Some xs) (Some ys) size front h = (front, ys, h, refl, tt)
 
+-- there is no room for the first
+pub none_read : (a : Option (List ℕ)) (size : ℕ) → Took a a (BodyLacks size why.NoMemory)
+none_read a size = unread a a size [] (Consumes-nil a)
+
 lacks_more : (old m size : ℕ) (w : EndReason) (front read rest : List ℕ) → length front ≡ old → old + m ≤ size → BodyLacks m w read rest → BodyLacks size w (front ++ read) rest
 lacks_more old m size why.Cut front read rest is within h = let l = length-append front read in (omega (arith, l, h.0), h.1)
 lacks_more old m size why.ReadFault front read rest is within h = let l = length-append front read in omega (arith, l, h)

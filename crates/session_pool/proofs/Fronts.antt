@@ -147,8 +147,3 @@ no_body (Some xs) (Some ys) c head limit size w l is least most h (p, rest, whol
   after,
   lacks_body limit size w head p rest (headed limit (head ++ p) head p refl l ∙ ap (λ n. front_after_size limit n p) (sym is)) least most lacks,
 )
-
--- ... since an allocation for what came failed
-pub no_room : (a b : Option (List ℕ)) (limit most : ℕ) (came : Came) → Took a b (Arrives limit most came) → Took a b (Lacks limit why.NoMemory)
-no_room None b limit most came h = tt
-no_room (Some input) b limit most came (read, rest, whole, after, frame) = (read, rest, whole, after, tt)

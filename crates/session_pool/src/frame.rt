@@ -7,9 +7,9 @@ ghost use Rattle.session_pool.specs.Turns.{Lacks, Arrives};
 ghost use Rattle.session_pool.specs.Reads.{HeadLacks, BodyLacks, Took, StopsShort, ReadsOn, Passes, ReadsPast};
 
 use crate::end_reason::EndReason;
-use std::alloc::Global;
+use std::alloc::{AllocError, Global};
 use std::io::{ErrorKind, Read};
-use wire_types::Bytes;
+use wire_types::{Block, Bytes};
 
 /// How often in a row an interrupted read is made again.
 const RETRIES: u32 = 1_000;
@@ -20,7 +20,7 @@ const SIZE_FIELD: usize = 4;
 /// The bytes of the shortest frame: api key, version, and correlation id.
 const LEAST: u32 = 8;
 
-/// For how many of a frame's bytes memory is taken at least, as far as it has so many, before any of them came.
+/// For how many bytes of a frame that isn't short memory is taken at least, as far as it has so many, before any of them came.
 const PIECE: usize = 8_192;
 
 /// Reads once, and up to 1,000 times again where that was interrupted. Gives how many bytes came, 0 at the end of the input; the
@@ -173,6 +173,110 @@ fn read_body<R: Read>(
     Ok(body)
 }
 
+/// Whether a frame asks what the one before did: they differ in their correlation ids alone.
+fn asks_again(frame: &[u8], before: &[u8]) -> bool {
+    frame.len() >= LEAST as usize
+        && frame.len() == before.len()
+        && frame[..4] == before[..4]
+        && frame[8..] == before[8..]
+}
+
+/// Where a session's short frames are read to: one after the other into a block. A frame that asks what the one before did gets
+/// memory of its own, since a poll that is asked again isn't kept: so those that are kept stand side by side.
+pub(crate) struct ShortFrames {
+    block: Block,
+    /// The last frame that is a part of a block.
+    before: Bytes,
+}
+
+impl Drop for ShortFrames {
+    fn drop(self) {
+        let ShortFrames {
+            block: _block,
+            before: _before,
+        } = self;
+    }
+}
+
+impl ShortFrames {
+    /// No frame yet, and no memory taken.
+    pub(crate) fn new(alloc: Global) -> ShortFrames {
+        ShortFrames {
+            block: Block::new(alloc),
+            before: Bytes::new(),
+        }
+    }
+
+    /// The frame that was read into the block. An error is an allocation failure.
+    fn take(&mut self, alloc: Global) -> Result<Bytes, AllocError>
+        ensures { IfOk result (λ frame. frame ≡ self.old.block) }
+    {
+        if asks_again(self.block.as_slice(), self.before.as_slice()) {
+            return Bytes::copy_from_slice(alloc, self.block.as_slice());
+        }
+        let frame = self.block.cut()?;
+        if let Ok(before) = frame.clone() {
+            self.before = before;
+        }
+        Ok(frame)
+    }
+
+    /// Reads `size` bytes. The error is `Cut`, `ReadFault` or `NoMemory`.
+    #[tactic(auto, using(crate::proofs::Bytes::none_read, crate::proofs::Bytes::unread, crate::proofs::Bytes::front_lacks))]
+    fn read<R: Read>(
+        &mut self,
+        alloc: Global,
+        reader: &mut R,
+        size: usize,
+    ) -> Result<Bytes, EndReason>
+        ensures len { IfOk result (λ body. length body ≡ size) }
+        ensures ok { IfOk result
+            (λ body. Consumes (R.remaining reader.old) (R.remaining reader.new) body) }
+        ensures err { IfErr result
+            (λ why. Took (R.remaining reader.old) (R.remaining reader.new) (BodyLacks size why)) }
+    {
+        if self.block.begin(size).is_err() {
+            return Err(EndReason::NoMemory);
+        }
+        if let Err(why) = read_piece(reader, self.block.part()) {
+            return Err(why);
+        }
+        match self.take(alloc) {
+            Ok(body) => Ok(body),
+            Err(_) => Err(EndReason::NoMemory),
+        }
+    }
+}
+
+/// Reads `size` bytes: a few to the session's short frames, and more into memory of their own. `longest` and the errors are those
+/// of `read_body`.
+#[tactic(auto, using(crate::proofs::Bytes::unread))]
+fn read_bytes<R: Read>(
+    alloc: Global,
+    reader: &mut R,
+    short: &mut ShortFrames,
+    longest: usize,
+    size: usize,
+) -> Result<Bytes, EndReason>
+    ensures len { IfOk result (λ body. length body ≡ size) }
+    ensures ok { IfOk result
+        (λ body. Consumes (R.remaining reader.old) (R.remaining reader.new) body) }
+    ensures err { IfErr result
+        (λ why. Took (R.remaining reader.old) (R.remaining reader.new) (BodyLacks size why)) }
+{
+    if size <= Block::SHORT {
+        return short.read(alloc, reader, size);
+    }
+    let body = match read_body(alloc, reader, longest, size) {
+        Ok(body) => body,
+        Err(why) => return Err(why),
+    };
+    match Bytes::from_vec(body) {
+        Ok(body) => Ok(body),
+        Err(_) => Err(EndReason::NoMemory),
+    }
+}
+
 /// Reads `size` bytes and drops them, by pieces of 8,192. The error is `Cut` or `ReadFault`.
 #[tactic(auto, using(crate::proofs::Bytes::none_passed, crate::proofs::Bytes::more_passed))]
 fn read_past<R: Read>(reader: &mut R, size: usize) -> Result<(), EndReason>
@@ -200,18 +304,19 @@ fn read_past<R: Read>(reader: &mut R, size: usize) -> Result<(), EndReason>
 fn read_keeping<R: Read>(
     alloc: Global,
     reader: &mut R,
+    short: &mut ShortFrames,
     longest: usize,
     kept: usize,
     size: usize,
-) -> Result<Vec<u8>, EndReason>
+) -> Result<Bytes, EndReason>
     requires { kept ≤ size }
-    ensures len { IfOk result (λ body. length body.items ≡ kept) }
+    ensures len { IfOk result (λ body. length body ≡ kept) }
     ensures ok { IfOk result
-        (λ body. ReadsPast (R.remaining reader.old) (R.remaining reader.new) body.items size) }
+        (λ body. ReadsPast (R.remaining reader.old) (R.remaining reader.new) body size) }
     ensures err { IfErr result
         (λ why. Took (R.remaining reader.old) (R.remaining reader.new) (BodyLacks size why)) }
 {
-    let body = match read_body(alloc, reader, longest, kept) {
+    let body = match read_bytes(alloc, reader, short, longest, kept) {
         Ok(body) => body,
         Err(why) => return Err(why),
     };
@@ -237,14 +342,15 @@ pub(crate) struct Came {
 fn read_sized<R: Read>(
     alloc: Global,
     reader: &mut R,
+    short: &mut ShortFrames,
     longest: usize,
     most: u32,
     limit: u32,
-) -> Result<(Vec<u8>, usize), EndReason>
-    ensures within { IfOk result (λ came. (length came.0.items ≤ came.1) × (came.1 ≤ limit)) }
+) -> Result<Came, EndReason>
+    ensures within { IfOk result (λ came. (length came.kept ≤ came.size) × (came.size ≤ limit)) }
     ensures ok { IfOk result
         (λ came. Took (R.remaining reader.old) (R.remaining reader.new)
-        (Arrives limit most (record { kept = came.0.items; size = came.1 }))) }
+        (Arrives limit most came)) }
     ensures err { IfErr result
         (λ why. Took (R.remaining reader.old) (R.remaining reader.new) (Lacks limit why)) }
 {
@@ -254,8 +360,11 @@ fn read_sized<R: Read>(
         return Err(EndReason::BadFrame);
     }
     let kept = if size > most { LEAST } else { size };
-    match read_keeping(alloc, reader, longest, kept as usize, size as usize) {
-        Ok(body) => Ok((body, size as usize)),
+    match read_keeping(alloc, reader, short, longest, kept as usize, size as usize) {
+        Ok(kept) => Ok(Came {
+            kept,
+            size: size as usize,
+        }),
         Err(why) => Err(why),
     }
 }
@@ -265,6 +374,7 @@ pub(crate) struct FrameReader<R> {
     pub(crate) reader: R,
     /// How many bytes were kept of the frame of which most were, whatever size fields announced.
     pub(crate) longest: usize,
+    pub(crate) short: ShortFrames,
 }
 
 impl<R: Drop> Drop for FrameReader<R> {
@@ -272,6 +382,7 @@ impl<R: Drop> Drop for FrameReader<R> {
         let FrameReader {
             reader: _reader,
             longest: _longest,
+            short: _short,
         } = self;
     }
 }
@@ -280,7 +391,6 @@ impl<R: Read> FrameReader<R> {
     /// Reads the next frame, without its size field, and keeps all of it, or the first eight bytes of one that is longer than
     /// `most`. What was kept isn't copied. The error is the reason for which the session ends: `BadFrame` for a size below 8 or
     /// above `limit`, `Closed`, `Cut`, `ReadFault` or `NoMemory`.
-    #[tactic(auto, using(crate::proofs::Fronts::no_room))]
     pub(crate) fn read(&mut self, alloc: Global, most: u32, limit: u32) -> Result<Came, EndReason>
         ensures within { IfOk result
             (λ came. (length came.kept ≤ came.size) × (came.size ≤ limit)) }
@@ -295,12 +405,9 @@ impl<R: Read> FrameReader<R> {
         ensures same { OnErr result (self.new.longest ≡ self.old.longest) }
     {
         let longest = self.longest;
-        let (body, size) = read_sized(alloc, &mut self.reader, longest, most, limit)?;
-        let kept = body.len();
-        let Ok(bytes) = Bytes::from_vec(body) else {
-            return Err(EndReason::NoMemory);
-        };
-        self.longest = longest.max(kept);
-        Ok(Came { kept: bytes, size })
+        let (reader, short) = (&mut self.reader, &mut self.short);
+        let came = read_sized(alloc, reader, short, longest, most, limit)?;
+        self.longest = longest.max(came.kept.len());
+        Ok(came)
     }
 }

@@ -37,7 +37,7 @@ pub(crate) fn write_versions(
     ensures { IfOk result
         (λ bytes. bytes ≡ response correlation (replies.ApiVersions (versions_listed listed))) }
 {
-    let reply = Reply::ApiVersions(versions_listed(alloc, listed)?);
+    let reply = Reply::ApiVersions(Boxed::new(alloc, versions_listed(alloc, listed)?)?);
     write_own(alloc, correlation, &reply)
 }
 
@@ -51,7 +51,8 @@ pub(crate) fn write_handshake(
     ensures { IfOk result
         (λ bytes. bytes ≡ response correlation (replies.SaslHandshake (handshake_reply error))) }
 {
-    let reply = Reply::SaslHandshake(SaslHandshakeReply::telling(alloc, error)?);
+    let told = SaslHandshakeReply::telling(alloc, error)?;
+    let reply = Reply::SaslHandshake(Boxed::new(alloc, told)?);
     write_own(alloc, correlation, &reply)
 }
 

@@ -106,7 +106,7 @@ fn stream_topics<W: Write>(
 {
     match reply {
         Reply::Metadata(answer) => stream_all(gathered, writer, answer.value().topics.as_slice()),
-        Reply::Fetch(answer) => stream_all(gathered, writer, answer.topics.as_slice()),
+        Reply::Fetch(answer) => stream_all(gathered, writer, answer.value().topics.as_slice()),
         _ => Ok(()),
     }
 }
@@ -117,7 +117,7 @@ fn front_of(alloc: Global, correlation: i32, reply: &Reply) -> Result<Option<Byt
 {
     match reply {
         Reply::Metadata(answer) => metadata_front(alloc, correlation, answer.value()),
-        Reply::Fetch(answer) => fetch_front(alloc, correlation, answer),
+        Reply::Fetch(answer) => fetch_front(alloc, correlation, answer.value()),
         _ => Ok(None),
     }
 }

@@ -11,7 +11,7 @@ ghost use Rattle.session_pool.specs.Turns.{most_kept, Sends, SendsParts, Finishe
 use crate::context::{LoginContext, SessionContext};
 use crate::desk::Desk;
 use crate::end_reason::EndReason;
-use crate::frame::{Came, FrameReader};
+use crate::frame::{Came, FrameReader, ShortFrames};
 use crate::gate::Gate;
 use crate::listed::ListedVersions;
 use crate::login::{Fresh, SessionState};
@@ -270,7 +270,11 @@ pub fn serve_session_in<S, Rd: Read + Drop, Wr: Write, D: Desk<S>, G: Gate>(
 {
     match BufReader::new(alloc, reader) {
         Ok(reader) => {
-            let mut reader = FrameReader { reader, longest: 0 };
+            let mut reader = FrameReader {
+                reader,
+                longest: 0,
+                short: ShortFrames::new(alloc),
+            };
             serve(alloc, context, &mut reader, writer, seat)
         }
         Err(_) => SessionEnd {

@@ -21,7 +21,7 @@ fn wait_of(receipt: &Receipt) -> Option<Duration> {
     let Reply::Fetch(reply) = receipt.reply() else {
         return None;
     };
-    for topic in reply.topics.as_slice() {
+    for topic in reply.value().topics.as_slice() {
         for part in topic.partitions.as_slice() {
             if part.records.len() > 0 || part.error != ErrorCode::None {
                 return None;

@@ -11,6 +11,7 @@ use request_handlers::Core;
 use settings_text::{SettingsFault, document_of_text};
 use std::alloc::{AllocError, Global};
 use std::io::Write;
+use wire_types::Block;
 
 const LINE_FEED: u8 = b'\n';
 
@@ -80,10 +81,11 @@ fn show_lines<A: Answers, W: Write>(
     writer: &mut W,
 ) -> Result<Shown, ShowFault> {
     let mut sheet = Sheet::new(alloc);
+    let mut block = Block::new(alloc);
     let mut number: u64 = 0;
     let mut after_long = false;
     for line in script.split_inclusive(|byte| *byte == LINE_FEED) {
-        let order = parse_order(alloc, content(line))?;
+        let order = parse_order(alloc, &mut block, content(line))?;
         let long = is_long(&order);
         if number != 0 && (long || after_long) {
             sheet.push_empty_line()?;

@@ -94,7 +94,7 @@ impl Transaction {
         match change {
             Change::Stays(code) => Ok(self.answer(code)),
             Change::Moves(code, standing, more, markers) => {
-                let mut more = Vec::from(more);
+                let mut more = more.into_vec()?;
                 given.reserve(more.len())?;
                 owed.append(markers)?;
                 given.append(&mut more).unwrap();

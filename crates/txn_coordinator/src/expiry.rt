@@ -51,7 +51,7 @@ pub(crate) fn expiry_markers(
         if transaction.is_due(moment) {
             let pair = transaction.pair.raised();
             let markers = transaction.markers(alloc, pair, TransactionResult::Abort)?;
-            owed.append(&mut Vec::from(markers))?;
+            owed.append(&mut markers.into_vec()?)?;
         }
     }
     Ok(Items::from(owed))

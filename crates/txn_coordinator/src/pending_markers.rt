@@ -68,11 +68,12 @@ impl PendingMarkers {
         ensures ok { OnOk result (self.new ≡ self.old ++ more) }
         ensures err { OnErr result (self.new ≡ self.old) }
     {
+        let more = more.into_vec()?;
         self.queue.reserve(more.len())?;
         let alloc = *self.queue.allocator();
-        enter_all(&mut self.counts, alloc, more.as_slice())?;
-        raise_all(&mut self.counts, more.as_slice());
-        let mut more = VecDeque::from_vec(Vec::from(more));
+        enter_all(&mut self.counts, alloc, &more)?;
+        raise_all(&mut self.counts, &more);
+        let mut more = VecDeque::from_vec(more);
         self.queue.append(&mut more).unwrap();
         Ok(())
     }

@@ -35,3 +35,9 @@ module _ (rules : Rules) (caller : Caller) where
 
   pub same_asked : (id : Option (List ℕ)) → part_refusal rules (init_question caller id ∷ []) ≡ None → init_question caller id ∷ [] ≡ init_questions rules caller id
   same_asked id h = sym (asked_granted id h)
+
+  -- and else what is refused is what is asked
+  pub asked_refused : (id : Option (List ℕ)) → (is_none id && any_topic rules.book.entries caller.who caller.host) ≡ false → init_question caller id ∷ [] ≡ init_questions rules caller id
+  asked_refused (Some id) none = refl
+  asked_refused None none =
+      sym (ap (λ (b : Bool). cond (b && is_some (question_refusal rules (init_question caller None))) [] (init_question caller None ∷ [])) none)

@@ -23,7 +23,7 @@ use partition_log::Log;
 use std::alloc::{AllocError, Global};
 use txn_coordinator::{Coordinator, ProducerIdAndEpoch, TopicPartition};
 use walk::{Part, PartApi, Walked, has_part, refusal_code, walk_cut, walk_granted};
-use wire_types::{ErrorCode, Items, Text, Topic};
+use wire_types::{Boxed, ErrorCode, Items, Text, Topic};
 
 /// Checks the partitions of an AddPartitionsToTxn before any is added. It holds the caller, the transactional id, what the
 /// policy answered to WRITE on it (`asked`), and the topics. It adds nothing and spends no permit.
@@ -187,13 +187,14 @@ fn push_partitions(
 }
 
 /// The AddPartitionsToTxn reply with these answers.
-fn add_reply(topics: Items<Topic<AddedPartition>>) -> Reply
-    ensures { result ≡ add_reply topics }
+fn add_reply(alloc: Global, topics: Items<Topic<AddedPartition>>) -> Result<Reply, AllocError>
+    ensures { IfOk result (λ reply. reply ≡ add_reply topics) }
 {
-    Reply::AddPartitionsToTxn(AddPartitionsToTxnReply {
+    let reply = AddPartitionsToTxnReply {
         throttle: 0,
         topics,
-    })
+    };
+    Ok(Reply::AddPartitionsToTxn(Boxed::new(alloc, reply)?))
 }
 
 /// The reply that answers each partition this error code, and the number of permits that are spent for them. It is known that
@@ -223,7 +224,7 @@ fn told(
         code,
     };
     let walked = walk_granted(alloc, &api, policy, &mut (), named)?;
-    Ok((add_reply(walked.topics), walked.spent))
+    Ok((add_reply(alloc, walked.topics)?, walked.spent))
 }
 
 /// The permit of a question that the policy answered `Yes`. `asked` is known to be granted.
@@ -264,7 +265,8 @@ pub fn answer_add_partitions(
         named,
     )?;
     if cut.refusals.len() != 0 || is_missing(&state.topics, named) {
-        return Ok(served_in_parts(add_reply(cut.topics), cut.refusals, cut.spent));
+        let reply = add_reply(alloc, cut.topics)?;
+        return Ok(served_in_parts(reply, cut.refusals, cut.spent));
     }
     let moment = state.moment.milliseconds();
     let (coordinator, policy) = (&mut state.coordinator, &state.policy);

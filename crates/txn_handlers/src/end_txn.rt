@@ -15,6 +15,7 @@ use record_batch::TransactionResult;
 use std::alloc::{AllocError, Global};
 use txn_coordinator::{Coordinator, EndForm, EndTransaction, ProducerIdAndEpoch, ProducerIdAnswer};
 use walk::refusal_code;
+use wire_types::Boxed;
 
 /// The outcome that the request's `committed` flag stands for.
 fn ending(committed: bool) -> TransactionResult
@@ -41,11 +42,15 @@ fn form_of(request: &EndTxnRequest) -> EndForm
 }
 
 /// The EndTxn reply in the request's version. Only version 5 has the producer id and epoch.
-fn end_reply(request: &EndTxnRequest, answer: ProducerIdAnswer) -> Reply
-    ensures { result ≡ Reply.EndTxn (end_reply request.now answer) }
+fn end_reply(
+    alloc: Global,
+    request: &EndTxnRequest,
+    answer: ProducerIdAnswer,
+) -> Result<Reply, AllocError>
+    ensures { IfOk result (λ reply. reply ≡ Reply.EndTxn (end_reply request.now answer)) }
 {
     let (throttle, error) = (0, answer.code);
-    Reply::EndTxn(match request {
+    let reply = match request {
         EndTxnRequest::Version0(_) => EndTxnReply::Version0(Ended { throttle, error }),
         EndTxnRequest::Version1(_) => EndTxnReply::Version1(Ended { throttle, error }),
         EndTxnRequest::Version2(_) => EndTxnReply::Version2(Ended { throttle, error }),
@@ -57,7 +62,8 @@ fn end_reply(request: &EndTxnRequest, answer: ProducerIdAnswer) -> Reply
             producer: answer.pair.producer,
             epoch: answer.pair.epoch,
         }),
-    })
+    };
+    Ok(Reply::EndTxn(Boxed::new(alloc, reply)?))
 }
 
 /// Ends the transaction by a permit to WRITE on its transactional id, which is spent in any case: the transaction is prepared,
@@ -95,7 +101,7 @@ fn end_by(
 
 /// Handles an EndTxn: commits or aborts the transaction if the caller may WRITE on its transactional id, and answers the
 /// coordinator's error code (see `Coordinator::end`); else answers TRANSACTIONAL_ID_AUTHORIZATION_FAILED. The answer comes
-/// before the markers are written.
+/// before the markers are written. After an allocation failure the transaction may be prepared already.
 pub fn answer_end_txn(
     alloc: Global,
     state: &mut State,
@@ -111,14 +117,15 @@ pub fn answer_end_txn(
         Ok(permit) => {
             let (coordinator, policy) = (&mut state.coordinator, &state.policy);
             let (spent, answer) = end_by(alloc, coordinator, policy, permit, request)?;
-            Ok(served_whole(alloc, end_reply(request, answer), Paid::one(spent)))
+            let reply = end_reply(alloc, request, answer)?;
+            Ok(served_whole(alloc, reply, Paid::one(spent)))
         }
         Err(refusal) => {
             let answer = ProducerIdAnswer {
                 code: refusal_code(&refusal),
                 pair: ProducerIdAndEpoch::NONE,
             };
-            refused_whole(alloc, end_reply(request, answer), refusal)
+            refused_whole(alloc, end_reply(alloc, request, answer)?, refusal)
         }
     }
 }

@@ -14,7 +14,7 @@ use msg_txn::{InitProducerIdReply, InitProducerIdRequest};
 use std::alloc::{AllocError, Global};
 use txn_coordinator::{Coordinator, ProducerIdAnswer};
 use walk::refusal_code;
-use wire_types::{ErrorCode, Text};
+use wire_types::{Boxed, ErrorCode, Text};
 
 /// The question whether the caller may WRITE on the transactional id, or, if there is none, do IDEMPOTENT_WRITE on the cluster.
 fn init_question(alloc: Global, caller: &Caller, id: &Option<Text>) -> Result<Question, AllocError>
@@ -27,44 +27,48 @@ fn init_question(alloc: Global, caller: &Caller, id: &Option<Text>) -> Result<Qu
 }
 
 /// The InitProducerId reply that gives this producer id, with epoch 0.
-fn init_given(producer: i64) -> Reply
-    ensures { result ≡ Reply.InitProducerId (init_given producer) }
+fn init_given(alloc: Global, producer: i64) -> Result<Reply, AllocError>
+    ensures { IfOk result (λ reply. reply ≡ Reply.InitProducerId (init_given producer)) }
 {
-    Reply::InitProducerId(InitProducerIdReply {
+    let reply = InitProducerIdReply {
         throttle: 0,
         error: ErrorCode::None,
         producer,
         epoch: 0,
-    })
+    };
+    Ok(Reply::InitProducerId(Boxed::new(alloc, reply)?))
 }
 
 /// The InitProducerId reply with this error code, and no producer id.
-fn init_error(error: ErrorCode) -> Reply
-    ensures { result ≡ Reply.InitProducerId (init_error error) }
+fn init_error(alloc: Global, error: ErrorCode) -> Result<Reply, AllocError>
+    ensures { IfOk result (λ reply. reply ≡ Reply.InitProducerId (init_error error)) }
 {
-    Reply::InitProducerId(InitProducerIdReply {
+    let reply = InitProducerIdReply {
         throttle: 0,
         error,
         producer: -1,
         epoch: -1,
-    })
+    };
+    Ok(Reply::InitProducerId(Boxed::new(alloc, reply)?))
 }
 
 /// The InitProducerId reply for what the coordinator answered: a producer id and epoch, or an error code.
-fn init_answered(answer: ProducerIdAnswer) -> Reply
-    ensures { result ≡ Reply.InitProducerId (init_answered answer) }
+fn init_answered(alloc: Global, answer: ProducerIdAnswer) -> Result<Reply, AllocError>
+    ensures { IfOk result (λ reply. reply ≡ Reply.InitProducerId (init_answered answer)) }
 {
-    Reply::InitProducerId(InitProducerIdReply {
+    let reply = InitProducerIdReply {
         throttle: 0,
         error: answer.code,
         producer: answer.pair.producer,
         epoch: answer.pair.epoch,
-    })
+    };
+    Ok(Reply::InitProducerId(Boxed::new(alloc, reply)?))
 }
 
 /// Handles an InitProducerId: gives a producer id and epoch to the transactional id if the caller may WRITE on it, or, without
 /// one, to an idempotent producer if the caller may do IDEMPOTENT_WRITE on the cluster or WRITE on any topic. Else answers
-/// TRANSACTIONAL_ID_ or CLUSTER_AUTHORIZATION_FAILED. Other errors are those of `Coordinator::init`.
+/// TRANSACTIONAL_ID_ or CLUSTER_AUTHORIZATION_FAILED. Other errors are those of `Coordinator::init`. After an allocation failure
+/// the id may have its new epoch, or a producer id may be given out.
 pub fn answer_init_producer_id(
     alloc: Global,
     state: &mut State,
@@ -84,11 +88,11 @@ pub fn answer_init_producer_id(
             Ok(served_whole(alloc, reply, Paid::one(spent)))
         }
         Err(_) if any_topic_suffices(state, caller, request) => {
-            let reply = init_given(state.coordinator.fresh()?);
+            let reply = init_given(alloc, state.coordinator.fresh()?)?;
             Ok(served_whole(alloc, reply, Paid::nothing()))
         }
         Err(refusal) => {
-            let reply = init_error(refusal_code(&refusal));
+            let reply = init_error(alloc, refusal_code(&refusal))?;
             refused_whole(alloc, reply, refusal)
         }
     }
@@ -106,7 +110,7 @@ fn any_topic_suffices(state: &State, caller: &Caller, request: &InitProducerIdRe
 
 /// Carries an allowed InitProducerId out and spends its permit in any case: without a transactional id gives out the next
 /// producer id, else asks the coordinator for the id's next epoch (`Coordinator::init`). `greatest` is the greatest transaction
-/// timeout, in milliseconds.
+/// timeout, in milliseconds. After an allocation failure either may be done already.
 fn initialize(
     alloc: Global,
     coordinator: &mut Coordinator,
@@ -124,12 +128,12 @@ fn initialize(
     match &request.transactional_id {
         None => {
             let spent = permit.spend(policy);
-            Ok((spent, init_given(coordinator.fresh()?)))
+            Ok((spent, init_given(alloc, coordinator.fresh()?)?))
         }
         Some(id) => {
             let timeout = request.timeout;
             let (spent, answer) = coordinator.init(alloc, policy, permit, id, timeout, greatest);
-            Ok((spent, init_answered(answer?)))
+            Ok((spent, init_answered(alloc, answer?)?))
         }
     }
 }

@@ -25,7 +25,7 @@ use partition_log::Log;
 use std::alloc::{AllocError, Global};
 use txn_coordinator::{Coordinator, ProducerIdAndEpoch, Target};
 use walk::{Part, PartApi, Walked, refusal_code, walk};
-use wire_types::{ErrorCode, Text};
+use wire_types::{Boxed, ErrorCode, Text};
 
 /// Serves the partitions of a TxnOffsetCommit. It holds the caller, its transactional id with producer id and epoch (`pair`),
 /// the group and member for which it commits, the policy's answers about both, and the topics.
@@ -248,5 +248,6 @@ pub fn answer_txn_offset_commit(
         throttle: 0,
         topics: walked.topics,
     };
-    Ok(served_in_parts(Reply::TxnOffsetCommit(reply), walked.refusals, walked.spent))
+    let reply = Reply::TxnOffsetCommit(Boxed::new(alloc, reply)?);
+    Ok(served_in_parts(reply, walked.refusals, walked.spent))
 }

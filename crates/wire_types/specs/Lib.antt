@@ -16,6 +16,8 @@ pub mod ErrorCode
 pub mod Topic
 pub mod Writing
 pub mod Place
+pub mod Items
+pub mod HeldPieces
 pub mod Pieces
 pub mod Laws
 pub mod Strings

@@ -106,8 +106,10 @@ fn deduct_all<T: Wire>(items: &[T], budget: usize) -> Option<usize>
 pub fn read_array<T: Wire>(alloc: Global, cursor: &mut Cursor<'_>) -> Result<Items<T>, ReadFault>
     ensures { Reads ((array T.grammar).reading cursor.old) result cursor.new }
 {
-    let count = cursor.read_count()?;
-    read_many(alloc, cursor, count)
+    match cursor.read_count() {
+        Ok(count) => read_many(alloc, cursor, count),
+        Err(malformed) => Err(ReadFault::from(malformed)),
+    }
 }
 
 /// Appends an ARRAY. `TooLong` where a count or a length is too large for its field. An error leaves `out` as it was.
@@ -186,8 +188,10 @@ pub fn read_compact_array<T: Wire>(
 ) -> Result<Items<T>, ReadFault>
     ensures { Reads ((compact_array T.grammar).reading cursor.old) result cursor.new }
 {
-    let count = cursor.read_compact_count()?;
-    read_many(alloc, cursor, count)
+    match cursor.read_compact_count() {
+        Ok(count) => read_many(alloc, cursor, count),
+        Err(malformed) => Err(ReadFault::from(malformed)),
+    }
 }
 
 /// Appends a COMPACT_ARRAY. `TooLong` where a count or a length is too large for its field. An error leaves `out` as it was.
@@ -270,8 +274,10 @@ pub fn read_varint_array<T: Wire>(
 ) -> Result<Items<T>, ReadFault>
     ensures { Reads ((varint_array T.grammar).reading cursor.old) result cursor.new }
 {
-    let count = cursor.read_varint_count()?;
-    read_many(alloc, cursor, count)
+    match cursor.read_varint_count() {
+        Ok(count) => read_many(alloc, cursor, count),
+        Err(malformed) => Err(ReadFault::from(malformed)),
+    }
 }
 
 /// Appends an array whose count is a VARINT. `TooLong` where a count or a length is too large for its field. An error leaves

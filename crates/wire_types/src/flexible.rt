@@ -149,8 +149,10 @@ pub fn read_flexible_topics<P: Wire>(
     ensures { Reads ((compact_array (flexible_topic_of P.grammar)).reading cursor.old) result
         cursor.new }
 {
-    let count = cursor.read_compact_count()?;
-    read_topics(alloc, cursor, count)
+    match cursor.read_compact_count() {
+        Ok(count) => read_topics(alloc, cursor, count),
+        Err(malformed) => Err(ReadFault::from(malformed)),
+    }
 }
 
 /// Appends the topics in a flexible version's form, as a COMPACT_ARRAY. `TooLong` where a count or a length is too large for its

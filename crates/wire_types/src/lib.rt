@@ -7,6 +7,7 @@
 
 mod arrays;
 mod blobs;
+mod block;
 mod boxed;
 mod budget;
 mod counts;
@@ -39,6 +40,7 @@ pub use blobs::{
     write_compact_nullable_bytes, write_nullable_bytes, write_varint_bytes,
     write_varint_nullable_bytes,
 };
+pub use block::Block;
 pub use boxed::Boxed;
 pub use budget::deduct;
 pub use counts::{write_compact_count, write_count, write_varint_count};

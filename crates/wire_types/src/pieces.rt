@@ -12,13 +12,16 @@ use crate::budget::deduct;
 use crate::counts::{deduct_count, write_count};
 use crate::cursor::Cursor;
 use crate::fault::{ReadFault, WriteFault};
+use crate::items::{FIRST_MEMORY, only};
 use crate::shared_bytes::Bytes;
 use std::alloc::{AllocError, Global};
 use std::marker::Model;
+use std::mem;
 use std::ops::Range;
 
-/// Shared bytes, of which the first 16 may be the piece's own: a stored batch has its base offset, batch length and partition
-/// leader epoch there (https://kafka.apache.org/documentation/#recordbatch), and shares all else with the frame that brought it.
+/// Shared bytes, of which the first 16 may be the piece's own: a batch that a log serves has its base offset, batch length and
+/// partition leader epoch there (https://kafka.apache.org/documentation/#recordbatch), and shares all else with the frame that
+/// brought it.
 pub struct Piece {
     own: Option<[u8; 16]>,
     shared: Bytes,
@@ -148,28 +151,36 @@ impl Clone for Piece {
 }
 
 /// Pieces in order, which contracts see as the bytes of all of them, one after the other. Two are equal where these bytes are,
-/// however they are cut into pieces.
+/// however they are cut into pieces. A single piece takes no block of its own.
 pub struct Pieces {
-    pieces: Vec<Piece>,
-    len: usize,
+    alloc: Global,
+    held: HeldPieces,
+}
+
+/// One piece, or a vector of any number of them with the number of all their bytes.
+#[derive(Drop)]
+enum HeldPieces {
+    One([Piece; 1]),
+    Many(Vec<Piece>, usize),
 }
 
 impl Model for Pieces {
-    ghost use Rattle.std.specs.Prelude.{◌≡◌, List, ℕ, length};
+    ghost use Rattle.std.specs.Prelude.{List, ℕ};
     ghost use Rattle.std.specs.List.{concat};
+    ghost use Rattle.wire_types.specs.HeldPieces.{pieces_held, IsCounted};
 
     ghost Value = { List ℕ };
 
-    ghost view = { λ p. concat p.pieces.items };
+    ghost view = { λ p. concat (pieces_held p.held) };
 
-    ghost invariant = { λ p. p.len ≡ length (concat p.pieces.items) };
+    ghost invariant = { λ p. IsCounted p.held };
 }
 
 impl Drop for Pieces {
     fn drop(self) {
         let Pieces {
-            pieces: _pieces,
-            len: _,
+            alloc: _,
+            held: _held,
         } = self;
     }
 }
@@ -180,43 +191,61 @@ impl Pieces {
         ensures { result ≡ [] }
     {
         Pieces {
-            pieces: Vec::new(alloc),
-            len: 0,
+            alloc,
+            held: HeldPieces::Many(Vec::new(alloc), 0),
         }
     }
 
-    /// One piece, of these shared bytes. An error is an allocation failure.
-    pub fn of(alloc: Global, bytes: Bytes) -> Result<Pieces, AllocError>
-        ensures { IfOk result (λ p. p ≡ bytes) }
+    /// One piece, of these shared bytes.
+    pub fn of(alloc: Global, bytes: Bytes) -> Pieces
+        ensures { result ≡ bytes }
     {
-        let len = bytes.len();
-        let mut pieces = Vec::with_capacity(alloc, 1)?;
-        pieces.push(Piece::of(bytes))?;
-        Ok(Pieces { pieces, len })
+        Pieces {
+            alloc,
+            held: HeldPieces::One([Piece::of(bytes)]),
+        }
     }
 
     /// The number of bytes in all pieces.
     pub fn len(&self) -> usize
         ensures { result ≡ length self.now }
     {
-        self.len
+        match &self.held {
+            HeldPieces::One([piece]) => piece.len(),
+            HeldPieces::Many(_, len) => *len,
+        }
     }
 
-    /// Appends a piece. The first one takes memory for one piece only. An error is an allocation failure, or more bytes in all
-    /// than a `usize` counts; it leaves the pieces as they were.
+    /// Appends a piece. An error is an allocation failure, or more bytes in all than a `usize` counts; it leaves the pieces as
+    /// they were. The first piece takes no memory, and the second memory for four.
     #[tactic(auto, using(crate::proofs::Runs::concat_more, crate::proofs::Runs::length_more))]
     pub fn push(&mut self, piece: Piece) -> Result<(), AllocError>
         ensures ok { OnOk result (self.new ≡ self.old ++ piece) }
         ensures err { OnErr result (self.new ≡ self.old) }
     {
-        let Some(len) = self.len.checked_add(piece.len()) else {
+        let Some(sum) = self.len().checked_add(piece.len()) else {
             return Err(AllocError);
         };
-        if self.pieces.is_empty() {
-            self.pieces.reserve_exact(1)?;
+        match &mut self.held {
+            HeldPieces::One(_) => {}
+            HeldPieces::Many(pieces, len) => {
+                if !pieces.is_empty() {
+                    pieces.push(piece)?;
+                    *len = sum;
+                    return Ok(());
+                }
+                self.held = HeldPieces::One([piece]);
+                return Ok(());
+            }
         }
-        self.pieces.push(piece)?;
-        self.len = len;
+        let alloc = self.alloc;
+        let mut both = Vec::with_capacity(alloc, FIRST_MEMORY)?;
+        let none = HeldPieces::Many(Vec::new(alloc), 0);
+        if let HeldPieces::One(one) = mem::replace(&mut self.held, none) {
+            both.push_reserved(only(one));
+        }
+        both.push_reserved(piece);
+        self.held = HeldPieces::Many(both, sum);
         Ok(())
     }
 
@@ -226,7 +255,7 @@ impl Pieces {
         ensures err { OnErr result (out.new.items ≡ out.old.items) }
     {
         let start = out.len();
-        for piece in &self.pieces {
+        for piece in self.as_slice() {
             if let Err(fault) = piece.push_to(out) {
                 out.truncate(start);
                 return Err(fault);
@@ -239,14 +268,17 @@ impl Pieces {
     pub fn as_slice(&self) -> &[Piece]
         ensures { concat result.now ≡ self.now }
     {
-        self.pieces.as_slice()
+        match &self.held {
+            HeldPieces::One(one) => one,
+            HeldPieces::Many(pieces, _) => pieces.as_slice(),
+        }
     }
 
     /// A copy of all the bytes, one after the other. An error is an allocation failure.
     pub fn to_bytes(&self, alloc: Global) -> Result<Bytes, AllocError>
         ensures { IfOk result (λ b. b ≡ self.now) }
     {
-        let mut out = Vec::with_capacity(alloc, self.len)?;
+        let mut out = Vec::with_capacity(alloc, self.len())?;
         self.push_to(&mut out)?;
         Bytes::from_vec(out)
     }
@@ -314,8 +346,8 @@ impl PartialEq for Pieces {
     ghost laws = { partial_equiv_from_equiv nat_list_eq_equiv };
 
     fn eq(&self, other: &Pieces) -> bool {
-        let mut left = Unread::of(&[], &[], self.pieces.as_slice());
-        let mut right = Unread::of(&[], &[], other.pieces.as_slice());
+        let mut left = Unread::of(&[], &[], self.as_slice());
+        let mut right = Unread::of(&[], &[], other.as_slice());
         while !left.run.is_empty() && !right.run.is_empty() {
             let count = left.run.len().min(right.run.len());
             if !begin_alike(left.run, right.run, count) {
@@ -340,7 +372,7 @@ impl<'a> Cursor<'a> {
         ensures { Reads (bytes.reading self.old) result self.new }
     {
         let bytes = self.read_bytes(alloc)?;
-        Ok(Pieces::of(alloc, bytes)?)
+        Ok(Pieces::of(alloc, bytes))
     }
 }
 

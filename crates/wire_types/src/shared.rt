@@ -2,11 +2,14 @@
 
 ghost use Rattle.std.specs.Prelude.{◌≡◌, IfOk, IfErr};
 
+use crate::cursor::Cursor;
+use crate::fault::{ReadFault, WriteFault};
+use crate::wire::Wire;
 use std::alloc::{AllocError, AllocFailed, Global};
 use std::marker::Model;
 use std::sync::Arc;
 
-/// A value in an `Arc`, which contracts see as the value.
+/// A value in an `Arc`, which contracts see as the value. Two are equal where their values are, whoever owns them.
 #[derive(Debug)]
 pub struct Shared<T> {
     arc: Arc<T>,
@@ -49,5 +52,39 @@ impl<T> Shared<T> {
         ensures { result.now ≡ self.now }
     {
         &*self.arc
+    }
+}
+
+impl<T: PartialEq> PartialEq for Shared<T> {
+    ghost eq = { T.eq };
+
+    ghost laws = { T.laws };
+
+    fn eq(&self, other: &Shared<T>) -> bool {
+        self.value() == other.value()
+    }
+}
+
+impl<T: Eq> Eq for Shared<T> {
+    ghost laws = { T.Eq.laws };
+}
+
+impl<T: Wire> Wire for Shared<T> {
+    ghost grammar = { T.grammar };
+
+    fn read(alloc: Global, cursor: &mut Cursor<'_>) -> Result<Shared<T>, ReadFault> {
+        let value: T = Wire::read(alloc, cursor)?;
+        match Shared::new(alloc, value) {
+            Ok(shared) => Ok(shared),
+            Err(_) => Err(ReadFault::NoMemory),
+        }
+    }
+
+    fn put(&self, out: &mut Vec<u8>) -> Result<(), WriteFault> {
+        self.value().put(out)
+    }
+
+    fn deduct_from(&self, budget: usize) -> Option<usize> {
+        self.value().deduct_from(budget)
     }
 }

@@ -53,6 +53,13 @@ impl Bytes {
         })
     }
 
+    /// The bytes of a part that the crate `bytes` shares.
+    pub(crate) fn of_part(part: Part) -> Bytes
+        ensures { result ≡ part }
+    {
+        Bytes { part }
+    }
+
     /// The same bytes as the type of the crate `bytes`.
     pub(crate) fn into_part(self) -> Part
         ensures { result ≡ self }

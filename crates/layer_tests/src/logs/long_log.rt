@@ -46,7 +46,7 @@ fn is_found(alloc: Global, log: &Log, offset: i64) -> bool {
         return false;
     };
     match served.batches.as_slice() {
-        [batch] => batch.base_offset() == base && batch.bytes().len() == size,
+        [batch] => batch.base_offset() == base && batch.len() == size,
         _ => false,
     }
 }

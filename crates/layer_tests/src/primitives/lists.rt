@@ -1,6 +1,6 @@
 //! Arrays, tagged sections and topics.
 
-use std::alloc::Global;
+use std::alloc::{AllocError, Global};
 use std::test::Fail;
 use wire_types::{
     Cursor, Items, Malformed, ReadFault, Text, Topic, Wire, WriteFault, deduct_flexible_topics,
@@ -10,6 +10,50 @@ use wire_types::{
     write_count, write_flexible_topics, write_no_tags, write_nullable_array,
     write_nullable_flexible_topics, write_varint_array, write_varint_count,
 };
+
+/// A list of these numbers, which are pushed one after the other.
+fn listed(alloc: Global, numbers: &[i32]) -> Result<Items<i32>, AllocError> {
+    let mut items = Items::new(alloc);
+    for number in numbers {
+        items.push(*number)?;
+    }
+    Ok(items)
+}
+
+/// A list holds its values in order, whether it has none, one or more; so do its copy, and the vector that it becomes.
+#[test]
+fn lists_hold_their_values_in_order(rt: HostRuntime) -> Result<(), Fail> {
+    let alloc = rt.alloc();
+    let all = [0, 1, 2, 3, 4, 5];
+    for wanted in [
+        &all[..0],
+        &all[..1],
+        &all[..2],
+        &all[..4],
+        &all[..5],
+        &all[..6],
+    ] {
+        let items = listed(alloc, wanted)?;
+        assert!(rt; items.as_slice() == wanted && items.len() == wanted.len());
+        assert_eq!(rt; items.is_empty(), wanted.is_empty());
+        assert_eq!(rt; items.get(0).copied(), wanted.first().copied());
+        assert!(rt; items.clone()? == items);
+        assert!(rt; items.into_vec()?.as_slice() == wanted);
+    }
+    Ok(())
+}
+
+/// Lists are equal where their values are, wherever these stand: one that took memory for two is equal to one that took none.
+#[test]
+fn lists_are_compared_by_their_values(rt: HostRuntime) -> Result<(), Fail> {
+    let alloc = rt.alloc();
+    let mut roomy = Items::with_capacity(alloc, 2)?;
+    assert!(rt; roomy == listed(alloc, &[])?);
+    roomy.push(0)?;
+    assert!(rt; roomy == listed(alloc, &[0])? && roomy != listed(alloc, &[0, 1])?);
+    assert!(rt; Items::from(vec![in alloc; 0, 1]?) == listed(alloc, &[0, 1])?);
+    Ok(())
+}
 
 /// Whether the items are this number alone, or null where none is wanted.
 fn are(items: &Option<Items<i32>>, wanted: Option<i32>) -> bool {

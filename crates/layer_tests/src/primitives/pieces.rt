@@ -2,7 +2,9 @@
 
 use std::alloc::{AllocError, Global};
 use std::test::Fail;
-use wire_types::{Bytes, Cursor, Malformed, Piece, Pieces, ReadFault, deduct_pieces, write_pieces};
+use wire_types::{
+    Block, Bytes, Cursor, Malformed, Piece, Pieces, ReadFault, deduct_pieces, write_pieces,
+};
 
 const ALPHABET: &[u8] = b"abcdefghijklmnopqrstuvwxyz";
 
@@ -45,7 +47,7 @@ fn pieces_are_their_bytes(rt: HostRuntime) -> Result<(), Fail> {
         assert!(rt; pieces.to_bytes(alloc)?.as_slice() == ALPHABET);
     }
     assert!(rt; are(&Pieces::new(alloc), b"", alloc)?);
-    let alone = Pieces::of(alloc, Bytes::copy_from_slice(alloc, b"abc")?)?;
+    let alone = Pieces::of(alloc, Bytes::copy_from_slice(alloc, b"abc")?);
     assert!(rt; are(&alone, b"abc", alloc)?);
     Ok(())
 }
@@ -113,5 +115,31 @@ fn pieces_travel_as_bytes(rt: HostRuntime) -> Result<(), Fail> {
     assert!(rt;
         read(alloc, b"\xff\xff\xff\xff").err() == Some(ReadFault::Malformed(Malformed::Range))
     );
+    Ok(())
+}
+
+/// Short runs that are copied into a block one after the other stay what they were, also where they fill it and the next one
+/// begins another, of 256 bytes and then up to 4,096: 12,300 bytes in all.
+#[test]
+fn parts_of_a_block_stay_what_they_were(rt: HostRuntime) -> Result<(), Fail> {
+    let alloc = rt.alloc();
+    let mut block = Block::new(alloc);
+    let mut parts = Vec::new(alloc);
+    for _ in 0..300 {
+        for len in [0, 15, 26] {
+            parts.push(block.copy(&ALPHABET[..len])?)?;
+        }
+    }
+    let long = [b'z'; 9_000];
+    parts.push(block.copy(&long)?)?;
+    parts.push(block.copy(ALPHABET)?)?;
+    for (place, part) in parts.iter().enumerate() {
+        let wanted = match place {
+            900 => long.as_slice(),
+            901 => ALPHABET,
+            _ => &ALPHABET[..[0, 15, 26][place % 3]],
+        };
+        assert!(rt; part.as_slice() == wanted);
+    }
     Ok(())
 }

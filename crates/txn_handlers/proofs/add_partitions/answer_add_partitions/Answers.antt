@@ -62,7 +62,7 @@ returns c =
       paid = search rules;
       spent =
           ap (λ (o : Told). o.spent) c.served_in_parts-2.ensures
-          ∙ c.in_ok-reply.ensures.spent
+          ∙ c.in_ok-reply-2.ensures.spent
           ∙ ap (λ (ts : List (Topic ℤ)). count_after_parts (rules_of v) 0 (asked_in (cut_rule caller r.transactional_id v.topics) ts)) c.as_slice-named.ensures
           ∙ sym (ap (count_after_parts (rules_of v) 0) paid)
           ∙ ap (λ (w : World). count_after_parts (rules_of w) 0 (added_parts w caller r)) c.state.view_is;

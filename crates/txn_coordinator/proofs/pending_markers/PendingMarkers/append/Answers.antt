@@ -7,14 +7,14 @@ use Rattle.txn_coordinator.proofs.pending_markers.PendingMarkers.append.Goals as
 
 pub raise_all-requires : goal.raise_all-requires
 raise_all-requires c = record {
-  entered = λ id owed. c.in_ok-enter_all.ensures.entered id (subst (λ (l : List PendingMarker). has_pending_marker l id ≡ true) (c.as_slice-2.ensures ∙ sym c.as_slice.ensures) owed);
+  entered = λ id owed. c.in_ok-enter_all.ensures.entered id (subst (λ (l : List PendingMarker). has_pending_marker l id ≡ true) (c.deref-2.ensures.value ∙ sym c.deref.ensures.value) owed);
   fits = λ id. omega (
     arith,
     c.enter_all.ensures.same id,
     c.self.invariant id,
     count_by-le-length (λ (m : PendingMarker). bytes_eq m.id id) c.self.inside.queue.items,
-    count_by-le-length (λ (m : PendingMarker). bytes_eq m.id id) c.as_slice-2.result.now,
-    ap length c.as_slice-2.ensures,
+    count_by-le-length (λ (m : PendingMarker). bytes_eq m.id id) c.deref-2.result.now,
+    ap length c.deref-2.ensures.value,
     c.in_ok-reserve.ensures.ok,
     c.reserve.ensures.len,
     c.len.ensures,
