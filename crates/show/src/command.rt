@@ -1,7 +1,8 @@
 //! The command that shows a script.
 
-ghost use Rattle.std.specs.Prelude.{◌≡◌, ◌≤◌, IfSome, length};
+ghost use Rattle.std.specs.Prelude.{◌≡◌, ◌↔◌, ◌≤◌, IfSome, Ok, length};
 ghost use Rattle.byte_streams.specs.Device.{TakesWithin};
+ghost use Rattle.show.specs.declared.outcome.Shown.TheVariants.{Whole};
 
 use crate::noted::Noted;
 use crate::outcome::{ShowFault, Shown};
@@ -97,7 +98,9 @@ fn give_up_answers<E: Write>(alloc: Global, errors: &mut E, path: &str, unread: 
 }
 
 /// Prints at which line, counted from 1, and why a script was shown no further, and gives the exit status 1.
-fn end_at<E: Write, Y: Display + Drop>(alloc: Global, errors: &mut E, number: u64, why: Y) -> u8 {
+fn end_at<E: Write, Y: Display + Drop>(alloc: Global, errors: &mut E, number: u64, why: Y) -> u8
+    ensures { result ≡ 1 }
+{
     if let (Ok(what), Ok(why)) = (
         format!(in alloc; "line {number}"),
         format!(in alloc; "{why}"),
@@ -108,7 +111,9 @@ fn end_at<E: Write, Y: Display + Drop>(alloc: Global, errors: &mut E, number: u6
 }
 
 /// Prints why a script wasn't shown to its end, if it wasn't, and gives the exit status, 0 or 1.
-fn end_of<E: Write>(alloc: Global, errors: &mut E, shown: Result<Shown, ShowFault>) -> u8 {
+fn end_of<E: Write>(alloc: Global, errors: &mut E, shown: Result<Shown, ShowFault>) -> u8
+    ensures whole { (result ≡ 0) ↔ (shown ≡ Ok Whole) }
+{
     match shown {
         Ok(Shown::Whole) => SHOWN,
         Ok(Shown::Refused(fault)) => {
