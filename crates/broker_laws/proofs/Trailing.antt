@@ -1,5 +1,5 @@
 -- Where a trail's entries, and the events of a run, lead.
-use Rattle.std.proofs.Common.{◌≡◌, ℕ, ◌≤◌, List, [], ◌∷◌, ◌++◌, length, Option, Some, None, Bool, true, false, refl, sym, ap, subst, ◌∙◌, inl, inr, ◌⊎◌, append_assoc, arith}
+use Rattle.std.proofs.Common.{◌≡◌, ℕ, ◌≤◌, List, [], ◌∷◌, ◌++◌, length, Option, Some, None, false, refl, sym, ap, subst, ◌∙◌, inl, inr, append_assoc, arith}
 use Rattle.std.specs.Prelude.{slice_get}
 use Rattle.std.proofs.lemmas.List.{map-append, length-map}
 use Rattle.record_batch.specs.declared.transaction_result.TransactionResult.{TransactionResult}
@@ -20,13 +20,13 @@ use Rattle.broker_world.specs.World.{World}
 use Rattle.broker_world.specs.First.{first_world}
 use Rattle.txn_handlers.specs.EndTxn.{ending_id, ending_outcome}
 use Rattle.txn_handlers.specs.Marks.{mark_by}
-use Rattle.api_dispatch.specs.Step.{step, reply_to, refusals_of, world_after_events, is_reading}
+use Rattle.api_dispatch.specs.Step.{step, reply_to, refusals_of, world_after_events}
 use Rattle.request_handlers.specs.declared.stop.Stop.{Stop}
-use Rattle.request_handlers.specs.declared.stop.Stop.TheVariants.{NoMemory, TrailFull, Down}
-use Rattle.request_handlers.specs.Core.{CoreValue, IsHistory, IsPutDown, AfterNoMemory, StoppedBy, IsRun, entry_of, history, events_of, core_after}
+use Rattle.request_handlers.specs.Core.{CoreValue, IsHistory, IsRun, entry_of, history, events_of, core_after}
+use Rattle.request_handlers.proofs.Histories.{stopped, stopped_trail, stopped_world}
 use Rattle.broker_laws.specs.Moves.{count_of_mark_events}
-use Rattle.broker_laws.specs.Laws.{IsPreparedBy, IsCompletedBy}
-use Rattle.broker_laws.specs.Trails.{IsCompleted, IsUnrefusedMark, IsCompletedIn, world_after_entries, TrailTells, CompletesOverATrail, CompletesBeforeIdle, CompletesOverARun}
+use Rattle.broker_laws.specs.Laws.{IsPreparedBy, IsCompletedBy, HasIdAndEpoch, IsShutOut, FencedWriteNothing}
+use Rattle.broker_laws.specs.Trails.{IsCompleted, IsUnrefusedMark, IsCompletedIn, world_after_entries, TrailTells, CompletesOverATrail, CompletesBeforeIdle, CompletesOverARun, FencedOverATrail, FencedOverARun}
 use Rattle.broker_laws.proofs.Reading.{marks_are_not_refused}
 use Rattle.broker_laws.proofs.Reached.{IsGood, good_step, good_reached, good}
 use Rattle.broker_laws.proofs.Completing.{prepared_completes}
@@ -34,6 +34,8 @@ use Rattle.broker_laws.proofs.Deciding.{prepared_decides}
 use Rattle.broker_laws.proofs.LogEnds.{prepared_ends}
 use Rattle.broker_laws.proofs.Ending.{ends, enough}
 use Rattle.broker_laws.proofs.Preparing.{prepares}
+use Rattle.broker_laws.proofs.Fencing.{fenced_write_nothing}
+use Rattle.broker_laws.proofs.Cores.{in_cores}
 
 -- ---- a world
 
@@ -148,27 +150,6 @@ completes_before_idle core is before between rest x y parts id t o by event repl
     subst (λ l. count_of_mark_events (events_of between) ≤ count_of_mark_events l) (sym (map-append (λ (z : Entry). z.event) between (y ∷ rest))) (marks_append (events_of between) (events_of (y ∷ rest))) in
     completes_over_a_trail core is before (between ++ y ∷ rest) x parts id t o by (omega (arith, few, all))
 
--- ---- a stop
-
-no_memory : (e : Event) (old new : CoreValue) → AfterNoMemory e old new → (new ≡ old) ⊎ IsPutDown old new
-no_memory e old new h = by_reading (is_reading e) refl where
-  by_reading : (b : Bool) → is_reading e ≡ b → (new ≡ old) ⊎ IsPutDown old new
-  by_reading true is = inl (h.reading is)
-  by_reading false is = inr (h.writing is)
-
-stopped : (stop : Stop) (old : CoreValue) (e : Event) (new : CoreValue) → StoppedBy stop old e new → (new ≡ old) ⊎ IsPutDown old new
-stopped NoMemory old e new h = no_memory e old new h.1
-stopped TrailFull old e new h = inl h.1
-stopped Down old e new h = inl h.1
-
-stopped_trail : (old new : CoreValue) → (new ≡ old) ⊎ IsPutDown old new → new.trail ≡ old.trail
-stopped_trail old new (inl same) = ap (λ (c : CoreValue). c.trail) same
-stopped_trail old new (inr put) = put.trail
-
-stopped_world : (old new : CoreValue) → (new ≡ old) ⊎ IsPutDown old new → new.down ≡ false → new.world ≡ old.world
-stopped_world old new (inl same) up = ap (λ (c : CoreValue). c.world) same
-stopped_world old new (inr put) up = absurd (let clash : true ≡ false = sym put.down ∙ up in cc)
-
 -- ---- a run
 
 ran_unrefused : (old new : CoreValue) (es : List Event) (rs : List ReceiptValue) (stop : Option Stop) → IsRun old es rs stop new → Each IsUnrefusedMark old.trail → Each IsUnrefusedMark new.trail
@@ -220,3 +201,28 @@ completes_over_a_run old new es rs stop is (inl run) before behind rest e parts 
     (λ now. ran_leads old new es rs stop run (before ++ e ∷ behind) rest (parts ∙ sym (append_assoc before (e ∷ behind) rest)) same now ∙ reached_append old.world before (e ∷ behind))
     (ran_unrefused old new es rs stop run (trail_unrefused old is.history))
     by enough
+
+-- ---- fencing
+
+pub fenced_over_a_trail : FencedOverATrail
+fenced_over_a_trail core is before between after rest parts id pair had left =
+    let first = first_world core.settings in
+    let here = world_after_entries core before in
+    let gone : world_after_entries core (before ++ between) ≡ world_after_events here (events_of between) =
+    ap (world_after_events first) (map-append (λ (x : Entry). x.event) before between) ∙ reached_append first (events_of before) (events_of between) in
+    let later : world_after_entries core (before ++ (between ++ after)) ≡ world_after_events (world_after_events here (events_of between)) (events_of after) =
+    ap (world_after_events first) (map-append (λ (x : Entry). x.event) before (between ++ after) ∙ ap (λ l. events_of before ++ l) (map-append (λ (x : Entry). x.event) between after))
+    ∙ reached_append first (events_of before) (events_of between ++ events_of after) ∙ reached_append here (events_of between) (events_of after) in
+    let out = fenced_write_nothing core.settings (events_of before) (events_of between) (events_of after) id pair had (λ has. left (subst (λ (w : World). HasIdAndEpoch w id pair) (sym gone) has)) in
+    subst (λ (w : World). IsShutOut pair w (world_after_entries core (before ++ (between ++ after)))) (sym gone) (subst (IsShutOut pair (world_after_events here (events_of between))) (sym later) out)
+
+pub fenced_over_a_run : FencedOverARun
+fenced_over_a_run old new es rs stop is (inr none) before after rest parts same up id pair had left now = absurd (nothing before same left) where
+  nothing : (before : List Event) → length rs ≡ length (before ++ after) → (HasIdAndEpoch (world_after_events old.world before) id pair → ⊥) → ⊥
+  nothing [] same left = left had
+  nothing (x ∷ before) same left = let zero = ap length none.0 in omega (arith, same, zero)
+fenced_over_a_run old new es rs stop is (inl run) before after rest parts same up id pair had left now =
+    let here : FencedWriteNothing old.world = in_cores FencedWriteNothing fenced_write_nothing old is up in
+    let leads : new.world ≡ world_after_events (world_after_events old.world before) after =
+    ran_leads old new es rs stop run (before ++ after) rest (parts ∙ sym (append_assoc before after rest)) same now ∙ reached_append old.world before after in
+    subst (IsShutOut pair (world_after_events old.world before)) (sym leads) (here before after id pair had left)

@@ -1,5 +1,5 @@
--- Completion over a run, and over the trail that a core has so far: what was prepared at some place is completed in the
--- world that the events after it leave.
+-- Completion and fencing over a run, and over the trail that a core has so far: what was prepared at some place is completed in
+-- the world that the events after it leave, and a pair that an id has left at some place stays shut out.
 use Rattle.std.specs.Prelude.{◌≡◌, ◌⊎◌, true, false, ℕ, ◌≤◌, List, [], ◌∷◌, ◌++◌, length, Option, Some}
 use Rattle.acl_binding.specs.declared.question.Caller.{Caller}
 use Rattle.wire_types.specs.declared.error_code.ErrorCode.TheVariants as codes
@@ -15,6 +15,7 @@ use Rattle.audit_trail.specs.declared.event.Event.{Event}
 use Rattle.audit_trail.specs.declared.event.Event.TheVariants.{Ask, Mark, Tick}
 use Rattle.audit_trail.specs.declared.trail.Entry.{Entry}
 use Rattle.request_handlers.specs.Receipt.{ReceiptValue}
+use Rattle.txn_coordinator.specs.declared.producer_id.ProducerIdAndEpoch.{ProducerIdAndEpoch}
 use Rattle.txn_coordinator.specs.declared.transaction.Transaction.{Transaction}
 use Rattle.txn_coordinator.specs.declared.transaction.TransactionState.TheVariants.{Ongoing}
 use Rattle.txn_coordinator.specs.Words.{targets}
@@ -34,7 +35,7 @@ use Rattle.request_handlers.specs.declared.stop.Stop.{Stop}
 use Rattle.request_handlers.specs.Core.{CoreValue, IsCore, IsRun, NoMemoryForReceipts, events_of}
 use Rattle.broker_laws.specs.Entries.{entries_in}
 use Rattle.broker_laws.specs.Moves.{count_of_mark_events}
-use Rattle.broker_laws.specs.Laws.{IsPreparedBy, marker_id_and_epoch, IsDecided, IsCompletedBy}
+use Rattle.broker_laws.specs.Laws.{IsPreparedBy, marker_id_and_epoch, IsDecided, IsCompletedBy, HasIdAndEpoch, IsShutOut}
 use Rattle.broker_laws.specs.LogEnds.{IsEndedAt}
 
 -- ---- a completed transaction
@@ -106,3 +107,19 @@ CompletesOverARun = (old new : CoreValue) (es : List Event) (rs : List ReceiptVa
     → (id : List ℕ) (t : Transaction) (outcome : TransactionResult) → IsPreparedBy (world_after_events old.world before) e id t outcome
     → up_to_last (step (world_after_events old.world before) e).coordinator.warrants id ≤ count_of_mark_events behind
     → IsCompletedIn new (world_after_events old.world before) e behind id t outcome
+
+-- ---- fencing
+
+-- If a transactional id had a pair at some place of the trail, and no longer at a later one, the pair is shut out at each place
+-- after that: no log gets data of it and no group an offset, and its requests fail.
+abbrev pub FencedOverATrail : Type 0
+FencedOverATrail = (core : CoreValue) → IsCore core → (before between after rest : List Entry) → core.trail ≡ before ++ (between ++ (after ++ rest))
+    → (id : List ℕ) (pair : ProducerIdAndEpoch) → HasIdAndEpoch (world_after_entries core before) id pair → (HasIdAndEpoch (world_after_entries core (before ++ between)) id pair → ⊥)
+    → IsShutOut pair (world_after_entries core (before ++ between)) (world_after_entries core (before ++ (between ++ after)))
+
+-- If a transactional id had a pair, and some events of a run made it leave it, the pair is shut out in the world that the run left.
+abbrev pub FencedOverARun : Type 0
+FencedOverARun = (old new : CoreValue) (es : List Event) (rs : List ReceiptValue) (stop : Option Stop) → IsCore old → IsRun old es rs stop new ⊎ NoMemoryForReceipts old rs stop new
+    → (before after rest : List Event) → es ≡ before ++ (after ++ rest) → length rs ≡ length (before ++ after) → old.down ≡ false
+    → (id : List ℕ) (pair : ProducerIdAndEpoch) → HasIdAndEpoch old.world id pair → (HasIdAndEpoch (world_after_events old.world before) id pair → ⊥) → new.down ≡ false
+    → IsShutOut pair (world_after_events old.world before) new.world

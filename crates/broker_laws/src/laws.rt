@@ -12,7 +12,7 @@ ghost use Rattle.broker_laws.specs.LogEnds.{LogsGoOn, EndsPrepared, EndsWaiting}
 ghost use Rattle.broker_laws.specs.CommitAbort.{CommitsAreShown};
 ghost use Rattle.broker_laws.specs.FirstWorld.{FirstWorldIsTheSettings};
 ghost use Rattle.broker_laws.specs.Time.{TicksEndWhatIsOver};
-ghost use Rattle.broker_laws.specs.Trails.{TrailTells, CompletesOverATrail, CompletesBeforeIdle, CompletesOverARun};
+ghost use Rattle.broker_laws.specs.Trails.{TrailTells, CompletesOverATrail, CompletesBeforeIdle, CompletesOverARun, FencedOverATrail, FencedOverARun};
 ghost use Rattle.broker_laws.specs.Members.{MembersComeAndGo};
 ghost use Rattle.broker_laws.specs.Commits.{CommitsAreOfMembers};
 ghost use Rattle.broker_laws.specs.MemberCodes.{CallsByNumber};
@@ -154,6 +154,18 @@ pub fn fences()
 pub fn fenced_write_nothing()
     ensures reached { InReached FencedWriteNothing }
     ensures cores { InCores FencedWriteNothing }
+{}
+
+/// Where the trail holds events by which a transactional id left a producer id and epoch, nothing of that producer and epoch is
+/// written to any log or group after them, and it is refused.
+pub fn fenced_over_a_trail()
+    ensures { FencedOverATrail }
+{}
+
+/// Where a core took a list of events by some of which a transactional id left a producer id and epoch, the others after these
+/// wrote nothing of that producer and epoch to any log or group, and it is refused.
+pub fn fenced_over_a_run()
+    ensures { FencedOverARun }
 {}
 
 /// In a log, no batch of a producer stands after a marker of the same producer id with a greater epoch.

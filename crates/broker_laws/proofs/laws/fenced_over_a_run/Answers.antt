@@ -1,0 +1,5 @@
+use Rattle.broker_laws.proofs.Trailing.{fenced_over_a_run}
+use Rattle.broker_laws.proofs.laws.fenced_over_a_run.Goals as goal
+
+pub returns : goal.returns
+returns c = fenced_over_a_run
