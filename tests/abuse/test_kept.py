@@ -1,8 +1,9 @@
-"""What the broker keeps of a small event, above the bytes of its frame, and of a poll that is asked and answered as the one before.
+"""What the broker keeps of a small event, above the bytes of its frame, of a poll that is asked and answered as the one before, of
+a commit among polls, and of a short session.
 
 Of an event it is the growth of the peak of memory from FEW events to MANY, less the event's line in the script, which `replay`
 holds too, and less the event's frame. FEW are so many that the peak is the program's, and not that of the process that starts
-it. Of a poll it is the growth of a server's memory. No contract speaks of either: a body that kept a caller, a reply or a list anew
+it. Of the others it is the growth of a server's memory. No contract speaks of it: a body that kept a caller, a reply or a list anew
 for each event would be proved.
 """
 
@@ -105,8 +106,8 @@ def kept_of_commit():
         before = broker.memory()
         poll(client, asked, MORE_POLLS)
         kept = broker.memory() - before
-    commits = MORE_POLLS // (POLLS_OF_A_COMMIT + 1)
-    return (kept - of_poll * (MORE_POLLS - commits)) / commits
+    count = MORE_POLLS // (POLLS_OF_A_COMMIT + 1)
+    return (kept - of_poll * (MORE_POLLS - count)) / count
 
 
 def kept_of_session():
@@ -122,6 +123,19 @@ def kept_of_session():
         before = broker.memory()
         visit(MORE_SESSIONS)
         return (broker.memory() - before) / MORE_SESSIONS
+
+
+def copies_in_memory(process, text):
+    """How often these bytes stand in the memory that a process may write to."""
+    found = 0
+    with open(f"/proc/{process.pid}/maps", encoding="utf-8") as maps, open(f"/proc/{process.pid}/mem", "rb", 0) as memory:
+        for line in maps:
+            place, rights, *_ = line.split()
+            if rights.startswith("rw"):
+                start, end = (int(it, 16) for it in place.split("-"))
+                memory.seek(start)
+                found += memory.read(end - start).count(text)
+    return found
 
 
 class Kept(unittest.TestCase):
@@ -151,6 +165,14 @@ class Kept(unittest.TestCase):
 
     def test_a_short_session_keeps_little(self):
         self.assertLess(kept_of_session(), LIMIT_OF_A_SESSION)
+
+    def test_the_trail_keeps_no_password(self):
+        """A login's bytes go back before the session asks anything: so what is left of many is what was freed last."""
+        with ClockedKbroker(OF_ROOT + topic("t"), connections=FEW_SESSIONS) as broker:
+            for _ in range(FEW_SESSIONS):
+                with logged_in(broker.address) as client:
+                    client.ask("Metadata", topics=["t"])
+            self.assertLess(copies_in_memory(broker.process, b"\0root\0toor"), FEW_SESSIONS // 4)
 
 
 if __name__ == "__main__":

@@ -214,9 +214,6 @@ impl<'r, R: Wait + time::Clock> Gate for OperatorLog<'r, R> {
     fn before(&self, _session: u64, _frame: u64) {}
 
     /// Logs nothing.
-    fn logged_in(&self, _session: u64, _who: &Text) {}
-
-    /// Logs nothing.
     fn after(&self, _session: u64, _frame: u64) {}
 
     /// Logs which api the frame asks, and which versions of the api are served.

@@ -7,7 +7,7 @@ use std::sync::atomic::{AtomicU64, Ordering};
 use std::sync::{Mutex, Wait};
 use std::time::Duration;
 use std::{io, thread, time};
-use wire_types::{Shared, Text};
+use wire_types::Shared;
 
 /// How far the two sessions have come.
 #[derive(Drop)]
@@ -80,9 +80,6 @@ impl<R: time::Clock + Drop> Gate for Hold<R> {
             flags.hold(&self.rt);
         }
     }
-
-    /// Does nothing.
-    fn logged_in(&self, _session: u64, _who: &Text) {}
 
     /// Notes that session 2 was served, after its last frame.
     fn after(&self, session: u64, frame: u64) {

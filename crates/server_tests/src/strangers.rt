@@ -37,9 +37,6 @@ impl Gate for Counting {
     fn before(&self, _session: u64, _frame: u64) {}
 
     /// Does nothing.
-    fn logged_in(&self, _session: u64, _who: &Text) {}
-
-    /// Does nothing.
     fn after(&self, _session: u64, _frame: u64) {}
 }
 

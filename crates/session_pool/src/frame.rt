@@ -173,7 +173,7 @@ fn read_body<R: Read>(
     Ok(body)
 }
 
-/// Whether a frame asks what the one before did: they differ in their correlation ids alone.
+/// Whether a frame asks what the one before did: they differ in their correlation ids at most.
 fn asks_again(frame: &[u8], before: &[u8]) -> bool {
     frame.len() >= LEAST as usize
         && frame.len() == before.len()
@@ -181,8 +181,8 @@ fn asks_again(frame: &[u8], before: &[u8]) -> bool {
         && frame[8..] == before[8..]
 }
 
-/// Where a session's short frames are read to: one after the other into a block. A frame that asks what the one before did gets
-/// memory of its own, since a poll that is asked again isn't kept: so those that are kept stand side by side.
+/// Where a session's short frames are read to: one after the other into a block. A frame that asks what the last short one did
+/// gets memory of its own: a poll that is asked again isn't kept, and would leave a gap between those that are.
 pub(crate) struct ShortFrames {
     block: Block,
     /// The last frame that is a part of a block.
@@ -248,8 +248,8 @@ impl ShortFrames {
     }
 }
 
-/// Reads `size` bytes: a few to the session's short frames, and more into memory of their own. `longest` and the errors are those
-/// of `read_body`.
+/// Reads `size` bytes: up to `Block::SHORT` as a short frame, and more into memory of their own. `longest` and the errors are
+/// those of `read_body`.
 #[tactic(auto, using(crate::proofs::Bytes::unread))]
 fn read_bytes<R: Read>(
     alloc: Global,
@@ -375,6 +375,8 @@ pub(crate) struct FrameReader<R> {
     /// How many bytes were kept of the frame of which most were, whatever size fields announced.
     pub(crate) longest: usize,
     pub(crate) short: ShortFrames,
+    /// Whether the session's user was known when the last frame was read.
+    pub(crate) known: bool,
 }
 
 impl<R: Drop> Drop for FrameReader<R> {
@@ -383,15 +385,35 @@ impl<R: Drop> Drop for FrameReader<R> {
             reader: _reader,
             longest: _longest,
             short: _short,
+            known: _known,
         } = self;
     }
 }
 
 impl<R: Read> FrameReader<R> {
+    /// Once the user is `known`, reads short frames to memory that none before was read to: those of a login hold a password, and
+    /// the trail would keep it as long as the requests that stand beside it.
+    fn part_from_login(&mut self, alloc: Global, known: bool)
+        ensures reader { self.new.reader ≡ self.old.reader }
+        ensures longest { self.new.longest ≡ self.old.longest }
+    {
+        if known && !self.known {
+            self.short = ShortFrames::new(alloc);
+        }
+        self.known = known;
+    }
+
     /// Reads the next frame, without its size field, and keeps all of it, or the first eight bytes of one that is longer than
-    /// `most`. What was kept isn't copied. The error is the reason for which the session ends: `BadFrame` for a size below 8 or
-    /// above `limit`, `Closed`, `Cut`, `ReadFault` or `NoMemory`.
-    pub(crate) fn read(&mut self, alloc: Global, most: u32, limit: u32) -> Result<Came, EndReason>
+    /// `most`. A frame of more than `Block::SHORT` bytes isn't copied. `known` tells whether the session's user is known. The
+    /// error is the reason for which the session ends: `BadFrame` for a size below 8 or above `limit`, `Closed`, `Cut`,
+    /// `ReadFault` or `NoMemory`.
+    pub(crate) fn read(
+        &mut self,
+        alloc: Global,
+        known: bool,
+        most: u32,
+        limit: u32,
+    ) -> Result<Came, EndReason>
         ensures within { IfOk result
             (λ came. (length came.kept ≤ came.size) × (came.size ≤ limit)) }
         ensures ok { IfOk result
@@ -404,6 +426,7 @@ impl<R: Read> FrameReader<R> {
             (λ came. self.new.longest ≡ max self.old.longest (length came.kept)) }
         ensures same { OnErr result (self.new.longest ≡ self.old.longest) }
     {
+        self.part_from_login(alloc, known);
         let longest = self.longest;
         let (reader, short) = (&mut self.reader, &mut self.short);
         let came = read_sized(alloc, reader, short, longest, most, limit)?;

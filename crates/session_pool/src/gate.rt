@@ -15,7 +15,7 @@ pub trait Gate {
 
     /// Is called once in a session, after the login's answer was written: from here on the session's user is known. `who` is the
     /// principal, `User:NAME`.
-    fn logged_in(&self, session: u64, who: &Text);
+    fn logged_in(&self, _session: u64, _who: &Text) {}
 
     /// Is called after each `before`: once the frame was answered, or the session ended on it or since none came.
     fn after(&self, session: u64, frame: u64);
@@ -48,8 +48,6 @@ pub trait Gate {
 /// Does nothing when it is called.
 impl Gate for () {
     fn before(&self, _session: u64, _frame: u64) {}
-
-    fn logged_in(&self, _session: u64, _who: &Text) {}
 
     fn after(&self, _session: u64, _frame: u64) {}
 }

@@ -191,11 +191,11 @@ fn turn<S, Rd: Read, Wr: Write, D: Desk<S>, G: Gate>(
 {
     let (login, limit, gate) = (&context.login, context.limits.frame, context.gate);
     let most = most_kept(login.users, &state, limit);
-    let came = match reader.read(alloc, most, limit) {
+    let was_known = state.is_known();
+    let came = match reader.read(alloc, was_known, most, limit) {
         Ok(came) => came,
         Err(why) => return (progress, Err(why)),
     };
-    let was_known = state.is_known();
     let place = progress.receipts.len();
     let (progress, outcome) = respond(alloc, login, context.desk, state, &came, progress);
     tell_receipt(gate, progress.receipts.as_slice(), place);
@@ -274,6 +274,7 @@ pub fn serve_session_in<S, Rd: Read + Drop, Wr: Write, D: Desk<S>, G: Gate>(
                 reader,
                 longest: 0,
                 short: ShortFrames::new(alloc),
+                known: false,
             };
             serve(alloc, context, &mut reader, writer, seat)
         }
