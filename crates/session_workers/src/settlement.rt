@@ -16,16 +16,16 @@ use thiserror::Error;
 pub enum SettleFault {
     /// A receipt whose event or reply isn't the trail's at its place.
     #[error("a receipt tells of another event or reply than the trail at its place")]
-    Stray,
+    Stray = 1,
     /// A place that more than one receipt holds.
     #[error("two receipts hold one place of the trail")]
-    Twice,
+    Twice = 2,
     /// A place that no receipt holds.
     #[error("no receipt holds a place of the trail")]
-    Missing,
+    Missing = 3,
     /// An allocation failed for the marks at the trail's places.
     #[error("there is not enough memory for a mark at each place of the trail")]
-    NoMemory,
+    NoMemory = 4,
 }
 
 impl SettleFault {

@@ -29,13 +29,13 @@ use thiserror::Error;
 pub enum PoolFault {
     /// An allocation failed for the workers' queue, a worker's handle or an end, or more sessions ended than 64 bits count.
     #[error("there is not enough memory for the ends of the sessions")]
-    NoMemory,
+    NoMemory = 1,
     /// No worker could be started, or no thread that accepts connections.
     #[error("no worker thread could be started")]
-    NoThread,
+    NoThread = 2,
     /// No seat was left for the keeper.
     #[error("no seat is left for the keeper")]
-    NoSeat,
+    NoSeat = 3,
 }
 
 impl PoolFault {
