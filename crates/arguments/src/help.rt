@@ -17,7 +17,7 @@ FILE, or else standard input, holds the settings, a line `---`, and the script, 
 
     req USER HOST HEX    a request of the principal `User:USER` at HOST, its frame with the size
                          field in hexadecimal digits
-    mark                 the first marker that an ended transaction owes is written
+    mark                 the first pending marker of an ended transaction is written
     tick N               the clock shows N milliseconds, in decimal digits; it never goes back
 
 The whole input is read before the first line is answered.
@@ -110,8 +110,8 @@ With `--control` there is no clock. Lines of standard input steer the broker, ea
 standard output once it is done:
 
     tick N     the clock shows N milliseconds: `moment M`, `aborted ID` for each transaction whose
-               time was over, and `owed K`, the markers that are owed
-    mark       the first marker that is owed is written: `marker`, what it says and where, `owed K`
+               time was over, and `owed K`, the markers that are pending
+    mark       the first pending marker is written: `marker`, what it says and where, `owed K`
     marks      all of them, a line for each, and at last `markers N`
     audit      the refusals since the last time, a line for each, and at last `refusals N`
     state      how things stand, a line for each thing, and at last `events N`
@@ -123,7 +123,7 @@ input is `end`.
 With `--stop-with-input` the broker keeps its own time. `audit` and `state` are answered as above,
 and every other line but `end` is answered `unreadable`. `end` and the end of standard input stop
 the broker, as the end of the time of `--for` does: no more connections are taken, no further
-request is read, answers that are due are written, and so are markers that are owed. Connections
+request is read, answers that are due are written, and so are pending markers. Connections
 that are still open after the seconds of `--grace` are closed.
 
 With `--librdkafka` ApiVersions lists, before a login, SaslHandshake and FindCoordinator from

@@ -47,7 +47,7 @@ pub enum Unreadable {
     #[error("the frame is not written in pairs of hexadecimal digits")]
     Digits,
     /// The frame's size field isn't the number of bytes after it.
-    #[error("the first four bytes of the frame are not the number of bytes behind them")]
+    #[error("the first four bytes of the frame are not the number of bytes after them")]
     Size,
     /// The moment is not written in decimal digits, or is above the greatest number of 64 bits.
     #[error("the moment is not written in decimal digits, or is above 18,446,744,073,709,551,615")]

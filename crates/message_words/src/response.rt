@@ -92,7 +92,7 @@ pub fn push_response(sheet: &mut Sheet, frame: &Bytes, response: &Bytes) -> Resu
     let Some(body) = after_size(response)? else {
         return push_no_answer(
             sheet,
-            "a response whose first four bytes are not the number of bytes behind them",
+            "a response whose first four bytes are not the number of bytes after them",
         );
     };
     match read_reply(alloc, api, &body) {

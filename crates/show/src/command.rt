@@ -113,6 +113,7 @@ fn end_at<E: Write, Y: Display + Drop>(alloc: Global, errors: &mut E, number: u6
 /// Prints why a script wasn't shown to its end, if it wasn't, and gives the exit status, 0 or 1.
 fn end_of<E: Write>(alloc: Global, errors: &mut E, shown: Result<Shown, ShowFault>) -> u8
     ensures whole { (result ≡ 0) ↔ (shown ≡ Ok Whole) }
+    ensures status { result ≤ 1 }
 {
     match shown {
         Ok(Shown::Whole) => SHOWN,
@@ -145,6 +146,7 @@ pub fn show_and_explain<T: Files, R: Read, W: Write, E: Write>(
     writer: &mut W,
     errors: &mut E,
 ) -> u8
+    ensures status { result ≤ 1 }
     ensures shown { result ≡ 0 → IfSome (R.remaining reader.old)
         (λ input. length input ≤ INPUT_LIMIT) }
     ensures bounded { TakesWithin (R.remaining reader.old) (R.remaining reader.new) }

@@ -146,9 +146,9 @@ pub fn show_script<W: Write>(
     answers: Option<&[u8]>,
     writer: &mut W,
 ) -> Result<Shown, ShowFault> {
-    let (front, behind) = split_input(input);
+    let (front, after) = split_input(input);
     let has_settings = front.len() < input.len();
-    let script = if has_settings { behind } else { input };
+    let script = if has_settings { after } else { input };
     match answers {
         Some(answers) => show_lines(alloc, script, &mut Told::new(answers), writer),
         None => {

@@ -50,7 +50,7 @@ fn fault_text(sheet: &Sheet, frame: &Bytes, fault: Malformed) -> Result<String, 
     match fault {
         Malformed::Rest => {
             format!(in alloc;
-                "sends {count} bytes that are no request: {fault} (behind byte {byte})"
+                "sends {count} bytes that are no request: {fault} (after byte {byte})"
             )
         }
         _ => format!(in alloc; "sends {count} bytes that are no request: {fault} (at byte {byte})"),
