@@ -12,7 +12,7 @@ from pathlib import Path
 
 sys.path[:0] = [str(Path(__file__).resolve().parent.parent)]
 
-from tests.abuse.test_kept import EVENTS, POLLS, kept_of, kept_of_poll  # noqa: E402
+from tests.abuse.test_kept import EVENTS, POLLS, kept_of, kept_of_commit, kept_of_poll, kept_of_session  # noqa: E402
 from tests.support import OF_ROOT, topic  # noqa: E402
 
 from kbroker_testing.broker import ClockedKbroker  # noqa: E402
@@ -31,11 +31,13 @@ def small_events():
 
 
 def polls():
-    """A table of polls without records: where a session asks as before, and where it asks two in turn."""
+    """A table of polls without records: where a session asks as before, and where it asks two in turn. And what a commit among
+    polls keeps, and a short session."""
     print("\n| a poll | kept, asked as before | asked otherwise |\n|---|--:|--:|")
     for api, requests in POLLS.items():
         (as_before, _), (otherwise, _) = kept_of_poll(api, requests[:1]), kept_of_poll(api, requests)
         print(f"| {api} | {as_before:.0f} | {otherwise:.0f} |")
+    print(f"\nan OffsetCommit among polls: {kept_of_commit():.0f}, a short session: {kept_of_session():.0f}")
 
 
 def served(client, *words):

@@ -208,7 +208,7 @@ ROWS = [
     ("the same, with names that collide by the default hasher", begin_colliding_groups, [5_000]),
     ("one of n entries of a TxnOffsetCommit", stage_at_once, [1_000, 25_000]),
     ("one of n staged offsets, decided", decide_staged, [1_000, 25_000]),
-    ("a marker step with n owed", markers_owed, [250, 1_000, 25_000]),
+    ("a marker step with n pending", markers_owed, [250, 1_000, 25_000]),
     ("a binding of n on as many names, read at the opening", open_many_names, [1_000, 25_000]),
     ("a binding of n on one name, read at the opening", open_one_name, [1_000, 25_000]),
     ("a DescribeAcls by one name among n", describe_by_name, [1_000, 25_000]),

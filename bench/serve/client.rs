@@ -204,7 +204,7 @@ impl Connection {
             // throttle, one topic, its name, one partition, its index
             match self.i16(4 + 4 + 4 + 3 + 4 + 4) {
                 0 => return Ok(()),
-                51 => thread::sleep(Duration::from_micros(200)), // the markers of the one before are owed
+                51 => thread::sleep(Duration::from_micros(200)), // the markers of the one before are pending
                 code => panic!("AddPartitionsToTxn is answered {code}"),
             }
         }
