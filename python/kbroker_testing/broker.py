@@ -6,7 +6,7 @@
         client_of(broker.address)      # "127.0.0.1:PORT", which is also what Metadata tells
         broker.tick(60_001)            # the clock shows so many milliseconds, and only now
         broker.advance(1_000)          # it goes on by a second
-        broker.mark()                  # one marker is written, and `marks` writes all that are owed
+        broker.mark()                  # one marker is written, and `marks` writes all that are pending
 
 `ClockedKbroker` keeps its time itself, and takes so many connections. The settings are a TOML text. Where they don't say so,
 `node_id`, `host` and `port` are put before them.
@@ -45,7 +45,7 @@ TICKS = os.sysconf("SC_CLK_TCK")
 
 
 class Moment(NamedTuple):
-    """What came of a tick: the broker's moment, the transactional ids whose time was over, and how many markers are owed."""
+    """What came of a tick: the broker's moment, the transactional ids whose time was over, and how many markers are pending."""
 
     moment: int
     aborted: tuple
@@ -143,7 +143,7 @@ def and_tells(lines):
 
 
 def marker_of(line):
-    """The marker of a line, or None where none was owed."""
+    """The marker of a line, or None where none was pending."""
     words = line.split(" ")
     if words[:2] == ["marker", "none"]:
         return None
@@ -369,11 +369,11 @@ class Kbroker(BrokerProcess):
         return self.tick(self.state().moment + milliseconds)
 
     def mark(self):
-        """Writes the first marker that is owed, and gives it; None where none is."""
+        """Writes the first pending marker, and gives it; None where none is pending."""
         return marker_of(self.say("mark"))
 
     def marks(self):
-        """Writes all that are owed, and gives them."""
+        """Writes all pending markers, and gives them."""
         return [marker_of(line) for line in self.lines("marks", "markers")[0]]
 
     def audit(self):

@@ -45,7 +45,7 @@ NO_TEXT = "kbroker: the command line: an argument is not UTF-8\n"
 # A file of so many bytes doesn't fit in so much memory.
 LONG, ROOM = 1 << 28, 1 << 27
 
-# What is typed behind each command, what it waits for, and how it ends.
+# What is typed after each command, what it waits for, and how it ends.
 TYPED = (
     (("check",), TOP + user(), "the settings", 0, "settings ok\n"),
     (("replay",), TOP + "---\nmark\n", "the script", 0, "-\n"),

@@ -90,7 +90,7 @@ def fetched(events, place, stable):
 
 
 class History:
-    """Draws lines, by what happened in each group and which markers are owed."""
+    """Draws lines, by what happened in each group and which markers are pending."""
 
     def __init__(self, seed):
         self.random, self.lines, self.seen = random.Random(seed), [], Counter()
@@ -145,7 +145,7 @@ class History:
         self.ask("AddOffsetsToTxn", {"throttle": 0, "error": error}, **who, group=group)
 
     def end(self, producer, who, outcome):
-        """An EndTxn: a marker is owed to each added group."""
+        """An EndTxn: a marker is pending for each added group."""
         owes, error = self.owes(producer), Code.NONE
         if self.added[producer] and not owes:
             self.owed += [(producer, group, outcome) for group in self.added[producer]]
@@ -157,7 +157,7 @@ class History:
         self.ask("EndTxn", {"throttle": 0, "error": error}, **who, committed=outcome == COMMIT)
 
     def mark(self):
-        """The first marker that is owed is written, and after its last one a transaction is over."""
+        """The first pending marker is written, and after its last one a transaction is over."""
         self.lines.append(Line("mark", "-"))
         if self.owed:
             producer, group, outcome = self.owed.pop(0)

@@ -301,7 +301,7 @@ class Requests(ToldCase):
         self.assertGreater(self.assert_counted(line.rstrip("\n"), settled, 1, apis), 0)
 
     def test_a_steered_broker(self):
-        """There the numbers of ticks and of marks are known: a mark counts though no marker is owed."""
+        """There the numbers of ticks and of marks are known: a mark counts though no marker is pending."""
         with Kbroker(SETTINGS) as broker:
             self.be_refused(broker)
             with logged_in(broker.address) as client:

@@ -111,7 +111,7 @@ def seen(broker, topic):
         if not batches:
             if answer["last_stable_offset"] == answer["high_watermark"]:
                 return values
-            time.sleep(0.05)  # a transaction is open, or its marker is owed
+            time.sleep(0.05)  # a transaction is open, or its marker is pending
             continue
         values += [value for _, value in committed(answer, offset)]
         offset = batches[-1].end
