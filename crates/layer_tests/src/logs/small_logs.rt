@@ -144,6 +144,17 @@ fn kind_of(digit: u32) -> Kind {
     }
 }
 
+/// Appends an entry of this kind of the producer to the log, and to the list. `false`, and nothing is added to either, if it
+/// can't be appended.
+fn push(alloc: Global, small: &mut Small, kind: Kind, producer: u8) -> Result<bool, AllocError> {
+    if !append(alloc, small, kind, producer)? {
+        return Ok(false);
+    }
+    let entry = entry_at(end(&small.entries), kind, producer);
+    small.entries.push(entry)?;
+    Ok(true)
+}
+
 /// The log of `length` entries that a number spells, three bits for each from the lowest on: its kind, and its producer, 0 or
 /// 1. `None` if one can't be appended.
 fn log_of(alloc: Global, number: u32, length: u32) -> Result<Option<Small>, AllocError> {
@@ -153,13 +164,10 @@ fn log_of(alloc: Global, number: u32, length: u32) -> Result<Option<Small>, Allo
     };
     let mut digits = number;
     for _ in 0..length {
-        let kind = kind_of(digits);
         let producer = if digits / 4 % 2 == 0 { 0 } else { 1 };
-        if !append(alloc, &mut small, kind, producer)? {
+        if !push(alloc, &mut small, kind_of(digits), producer)? {
             return Ok(None);
         }
-        let entry = entry_at(end(&small.entries), kind, producer);
-        small.entries.push(entry)?;
         digits /= 8;
     }
     Ok(Some(small))
@@ -215,23 +223,66 @@ fn is_right_from_each(alloc: Global, small: &Small) -> Result<bool, AllocError> 
     Ok(true)
 }
 
-/// Whether all logs of so many entries can be made and answer rightly. The last entry is of producer 0: with the two producers
-/// exchanged a log is the same.
-fn all_are_right(alloc: Global, length: u32) -> Result<bool, AllocError> {
-    for number in 0..8u32.saturating_pow(length).div_ceil(2) {
-        match log_of(alloc, number, length)? {
-            Some(small) if is_right_from_each(alloc, &small)? => (),
-            _ => return Ok(false),
+/// Whether each log of so many entries, with one more of this kind and of producer 0 at its end, can be made and answers rightly.
+/// With the two producers exchanged a log is the same.
+fn are_right_with(alloc: Global, before: u32, last: Kind) -> Result<bool, AllocError> {
+    for number in 0..8u32.saturating_pow(before) {
+        let Some(mut small) = log_of(alloc, number, before)? else {
+            return Ok(false);
+        };
+        if !push(alloc, &mut small, last, 0)? || !is_right_from_each(alloc, &small)? {
+            return Ok(false);
         }
     }
     Ok(true)
 }
 
-/// Each log of up to six entries of two producers serves what the list of its entries says.
-#[test]
-fn small_logs_are_served_as_listed(rt: HostRuntime) -> Result<(), Fail> {
-    for length in 0..MOST + 1 {
-        assert!(rt; all_are_right(rt.alloc(), length)?, "of {length} batches");
+/// Makes each log of up to six entries of two producers, of which the last is of this kind. `None` if all serve what the list of
+/// their entries says; else of how many entries the first is that doesn't. A test has a minute, and all of them would take it: so
+/// those of each kind have a test of their own.
+fn first_wrong(alloc: Global, last: Kind) -> Result<Option<u32>, AllocError> {
+    for before in 0..MOST {
+        if !are_right_with(alloc, before, last)? {
+            return Ok(Some(before + 1));
+        }
     }
+    Ok(None)
+}
+
+/// An empty log serves nothing, and no offset but 0 is in range.
+#[test]
+fn an_empty_log(rt: HostRuntime) -> Result<(), Fail> {
+    let Some(empty) = log_of(rt.alloc(), 0, 0)? else {
+        return Err(Fail::from("no log"));
+    };
+    assert!(rt; is_right_from_each(rt.alloc(), &empty)?);
+    Ok(())
+}
+
+/// Small logs whose last entry is a batch of a transaction, which is open, are served as listed.
+#[test]
+fn small_logs_with_a_transactional_batch_at_the_end(rt: HostRuntime) -> Result<(), Fail> {
+    assert_eq!(rt; first_wrong(rt.alloc(), Kind::Transactional)?, None);
+    Ok(())
+}
+
+/// And those whose last entry is a batch of no transaction.
+#[test]
+fn small_logs_with_a_batch_of_no_transaction_at_the_end(rt: HostRuntime) -> Result<(), Fail> {
+    assert_eq!(rt; first_wrong(rt.alloc(), Kind::Plain)?, None);
+    Ok(())
+}
+
+/// And those whose last entry is a marker that commits.
+#[test]
+fn small_logs_with_a_commit_at_the_end(rt: HostRuntime) -> Result<(), Fail> {
+    assert_eq!(rt; first_wrong(rt.alloc(), Kind::Commit)?, None);
+    Ok(())
+}
+
+/// And those whose last entry is a marker that aborts.
+#[test]
+fn small_logs_with_an_abort_at_the_end(rt: HostRuntime) -> Result<(), Fail> {
+    assert_eq!(rt; first_wrong(rt.alloc(), Kind::Abort)?, None);
     Ok(())
 }
