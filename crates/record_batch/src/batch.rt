@@ -119,7 +119,8 @@ impl Batch {
         self.bytes.len()
     }
 
-    /// The batch's header, which is read from the bytes.
+    /// The batch's header, which is read from the bytes, with the base offset that the log gave it and leader epoch 0 where it has
+    /// its place.
     pub fn header(&self) -> BatchHeader
         ensures { result ≡ self.now.header }
     {

@@ -1,4 +1,5 @@
-//! A batch's fields, each of which is read from its bytes when it is asked for.
+//! A batch's fields, each of which is read from its bytes when it is asked for, but for the base offset and the leader epoch of a
+//! batch in its place.
 
 ghost use Rattle.std.specs.Prelude.{◌≡◌};
 ghost use Rattle.record_batch.specs.BatchHeader.{is_transactional, is_control};

@@ -7,16 +7,6 @@ pub all_of : {A E : Type 0} (P : Type 0) (r : Result A E) (x : A) → r ≡ Ok x
 all_of P (Ok y) x is p = p
 all_of P (Err e) x is p = absurd cc
 
--- where the first part was not all written, neither was the whole
-pub wrote_part : {A B E F : Type 0} (old new : Option (List ℕ)) (a b text : List ℕ) (r : Result A E) (e : F) → a ++ b ≡ text → Wrote old new a r → Wrote {A = B} {E = F} old new text (Err e)
-wrote_part old new a b text r e whole w = record {
-  done = w.done;
-  left = w.left ++ b;
-  split = sym whole ∙ ap (λ (t : List ℕ). t ++ b) w.split ∙ append_assoc w.done w.left b;
-  grew = w.grew;
-  all = tt;
-}
-
 -- what was written, where it was all
 pub whole_is : {A E : Type 0} (old new : Option (List ℕ)) (text : List ℕ) (r : Result A E) (x : A) → r ≡ Ok x → (w : Wrote old new text r) → text ≡ w.done
 whole_is old new text r x is w = w.split ∙ ap (λ (t : List ℕ). w.done ++ t) (all_of (w.left ≡ []) r x is w.all) ∙ append-nil w.done

@@ -1,14 +1,8 @@
 -- What stands at the front stays there, whatever is put after it.
-use Rattle.std.proofs.Common.{◌≡◌, ℕ, List, ◌++◌, length, take_all, le_refl, refl, sym, subst}
+use Rattle.std.proofs.Common.{◌≡◌, ℕ, List, sym, subst}
 use Rattle.std.specs.Io.{StartsWith}
 use Rattle.std.proofs.Transfers.{starts_with_trans, starts_with_of_append}
 use Rattle.wire_types.specs.Grammar.{Grammar}
-
-pub own_front : (bytes : List ℕ) → StartsWith bytes bytes
-own_front bytes = take_all (length bytes) bytes (le_refl (length bytes))
-
-pub after_text : (front bytes text : List ℕ) → StartsWith bytes front → StartsWith (bytes ++ text) front
-after_text front bytes text is = starts_with_trans (bytes ++ text) bytes front (starts_with_of_append (bytes ++ text) bytes text refl) is
 
 pub after_put : {A : Type 0} (g : Grammar A) (front bytes : List ℕ) (x : A) → StartsWith bytes front → StartsWith (g.put bytes x) front
 after_put g front bytes x is = starts_with_trans (g.put bytes x) bytes front (starts_with_of_append (g.put bytes x) bytes (g.written x) (g.puts bytes x)) is

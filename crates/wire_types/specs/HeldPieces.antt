@@ -1,4 +1,4 @@
--- The pieces of a list of them.
+-- What `Pieces` holds: one piece, or several with the number of all their bytes.
 use Rattle.std.specs.Prelude.{◌≡◌, List, ℕ, length}
 use Rattle.std.specs.List.{concat}
 use Rattle.wire_types.specs.declared.pieces.HeldPieces.{HeldPieces}

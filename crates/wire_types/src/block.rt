@@ -14,7 +14,7 @@ use std::marker::Model;
 /// makes the broker keep little.
 const FIRST: usize = 256;
 
-/// The most bytes that a block has.
+/// The most bytes that a block has, but for one that is made for a single longer run.
 const MOST: usize = 4_096;
 
 /// Memory for short runs of bytes that come one after the other, as small frames do. Each run is the next part of a block of
@@ -100,9 +100,10 @@ impl Block {
         Ok(Bytes::of_part(self.rest.freeze_to(len)?))
     }
 
-    /// Copies bytes into the next part. An error is an allocation failure.
+    /// Copies bytes into the next part, and cuts it off. An error is an allocation failure.
     pub fn copy(&mut self, bytes: &[u8]) -> Result<Bytes, AllocError>
-        ensures { IfOk result (λ copy. copy ≡ bytes.now) }
+        ensures value { IfOk result (λ copy. copy ≡ bytes.now) }
+        ensures rest { OnOk result (self.new ≡ []) }
     {
         self.begin(bytes.len())?;
         self.part().copy_from_slice(bytes);

@@ -22,7 +22,7 @@ pub enum Malformed {
     #[error("the api or its version is not served")]
     Unknown = 4,
     /// Bytes after the end of what is read.
-    #[error("there are bytes behind the body")]
+    #[error("there are bytes after the body")]
     Rest = 5,
 }
 
