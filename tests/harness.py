@@ -195,7 +195,7 @@ def judged(cases, came):
 
 
 def run_side_by_side(modules, lanes):
-    """Runs modules, so many at once, and gives their counts as they end."""
+    """Runs modules, so many at once, and gives each name and what came of it as they end."""
     left, running = [*modules.items()], []
     try:
         while left or running:
@@ -203,7 +203,7 @@ def run_side_by_side(modules, lanes):
                 running.append(Worker(*left.pop(0)))
             for it in [it for it in running if it.has_ended()]:
                 running.remove(it)
-                yield it.count()
+                yield it.name, it.count()
             time.sleep(0.05)
     finally:
         for it in running:
@@ -211,11 +211,11 @@ def run_side_by_side(modules, lanes):
 
 
 def run_modules(modules):
-    """Runs modules, those that look at no time side by side, and gives what came of all."""
+    """Runs modules, those that look at no time side by side, and gives what came of each, by its name."""
     beside = {it: modules[it] for it in SIDE_BY_SIDE if it in modules}
     alone = {name: cases for name, cases in modules.items() if name not in beside}
-    counts = [*run_side_by_side(beside, len(os.sched_getaffinity(0)))]
-    return total([*counts, *run_side_by_side(alone, 1)])
+    counts = dict(run_side_by_side(beside, len(os.sched_getaffinity(0))))
+    return {**counts, **dict(run_side_by_side(alone, 1))}
 
 
 def tell_faults(found):
@@ -241,7 +241,7 @@ def run_chosen(words):
     """Runs these folders and modules, or all. Gives whether there are some, and all pass."""
     found, begins = discover(), tuple(f"{it}." for it in words)
     chosen = {name: cases for name, cases in found.modules.items() if not words or f"{name}.".startswith(begins)}
-    count = total([tell_faults(found), run_modules(chosen)])
+    count = total([tell_faults(found), *run_modules(chosen).values()])
     print(f"{count.passed} passed, {count.failed} failed, {count.skipped} skipped")
     return count.failed == 0 and bool(chosen)
 

@@ -9,8 +9,8 @@ over copies too, the more side by side the fewer proofs run. What all these pass
 the rest: its word alone counts.
 
 The last line is 'N passed, M failed', with a crate, a mutant and a case of tests/ for one each, and in brackets how many there
-were of each kind. What rt said is kept in out/gate.log, and what each crate took, as seen every two seconds, in out/gate.json:
-tools/gate_times.py makes a table of it.
+were of each kind. The lines before it tell what failed. What rt said is kept in out/gate.log, and what each crate took, as seen
+every two seconds, in out/gate.json: tools/gate_times.py makes a table of it.
 """
 
 import json
@@ -47,6 +47,7 @@ TICKS = os.sysconf("SC_CLK_TCK")
 PAGE = os.sysconf("SC_PAGE_SIZE")
 TOTALS = re.compile(r"^(\d+) passed, (\d+) failed$", re.M)
 PROVED = re.compile(r"^rt: (\w+) (?:proved$|is kept)", re.M)
+FAULTS = re.compile(r"^(?:rt: FAILED: .+|test \S+ \.\.\. FAILED.*)$", re.M)
 
 
 def processes():
@@ -312,11 +313,17 @@ def write_times(sampler, wall):
 
 
 def run_tests(modules):
-    """Runs the tests over the program, and returns what came of them."""
+    """Runs the tests over the program, and returns what came of each module, by its name."""
     if not PROGRAM.exists():
         print("gate: the tests FAILED: there is no program")
-        return harness.Count(0, sum(map(len, modules.values())), 0)
+        return {name: harness.Count(0, len(cases), 0) for name, cases in modules.items()}
     return harness.run_modules(modules)
+
+
+def faults_of(said, status, counts):
+    """What failed, a line for each: what `rt ci` said of crates, mutants and tests of crates, and the modules of tests/."""
+    faults = [*FAULTS.findall(said)] or [f"rt ci ended with status {status}"] * bool(status)
+    return faults + [f"{name} FAILED: {count.failed} failed" for name, count in counts.items() if count.failed]
 
 
 def main():
@@ -326,7 +333,9 @@ def main():
     found = harness.discover()
     modules = {**found.modules}
     text, last, status, beside = run_checks(modules.pop(harness.ON_SOURCES, []))
-    count = harness.total([beside, harness.tell_faults(found), run_tests(modules)])
+    not_found = harness.tell_faults(found)
+    counts = {harness.ON_SOURCES: beside, **run_tests(modules)}
+    count = harness.total([not_found, *counts.values()])
     passed, failed = map(int, (TOTALS.findall(last) or [(0, 1)])[-1])
     if status and not failed:
         failed = 1
@@ -336,6 +345,8 @@ def main():
     minutes = (time.monotonic() - started) / 60
     what = f"{crates} crates proved, {mutants} mutants refused, {tests} tests of crates and {count.passed} of tests/ passed"
     passed, failed = passed + count.passed, failed + count.failed
+    for it in [*found.faults, *faults_of(last, status, counts)]:
+        print(f"gate: {it}")
     print(f"gate: what was said is in {LOG.relative_to(ROOT)}")
     print(f"{passed} passed, {failed} failed ({what}, {count.skipped} skipped, in {minutes:.1f} minutes)", flush=True)
     sys.exit(1 if failed else 0)
