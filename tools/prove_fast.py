@@ -231,26 +231,26 @@ def work_of(crates):
     return {it: SECONDS_OF_CRATE + SECONDS_OF_LINE * it.count(rb"\n") for it in crates}
 
 
-def work_behind(crates, below):
+def work_waiting(crates, below):
     """The work of the longest chain of crates that waits for each one, its own among it, in processor seconds."""
-    own, behind = work_of(crates), {}
+    own, waiting = work_of(crates), {}
     for crate in reversed(crates):
-        behind[crate] = own[crate] + max((behind[it] for it in behind if crate in below[it]), default=0)
-    return behind
+        waiting[crate] = own[crate] + max((waiting[it] for it in waiting if crate in below[it]), default=0)
+    return waiting
 
 
-def start_next(rt, left, running, memory, needs, below, behind):
-    """Starts what is ready and finds a processor and memory, what the most work waits for first. What runs with less work
-    behind it takes none from a crate: it is nicer, and runs on what is left. So there is one more than processors where
+def start_next(rt, left, running, memory, needs, below, waiting):
+    """Starts what is ready and finds a processor and memory, what the most work waits for first. What less work waits
+    for takes none from a crate: it is nicer, and runs on what is left. So there is one more than processors where
     there are several, as few crates use theirs all the time. What the most work waits for, or nearly so, has more jobs where
     else only what can wait would run: two jobs take a quarter more of the processors than one."""
     unmade = {*left, *(it.crate for it in running)}
     ready = [it for it in left if not unmade & below[it]]
-    slacks = slacks_of([*ready, *(it.crate for it in running)], behind)
+    slacks = slacks_of([*ready, *(it.crate for it in running)], waiting)
     lanes, pressing = processors(rt), sum(it < PRESSING for it in slacks.values())
     for crate in ready:
         slack = slacks[crate]
-        used = sum(it.jobs for it in running if behind[it.crate] >= behind[crate])
+        used = sum(it.jobs for it in running if waiting[it.crate] >= waiting[crate])
         idle = lanes + (lanes > 1) - used
         room, need = memory - sum(it.need for it in running), needs[crate]
         if idle < 1 or running and need > room:
@@ -263,10 +263,10 @@ def start_next(rt, left, running, memory, needs, below, behind):
             running.append(Step(rt, crate, need, jobs, min(int(slack // SECONDS_OF_NICE), MOST_NICE), lock))
 
 
-def slacks_of(crates, behind):
+def slacks_of(crates, waiting):
     """How much less work waits for each of these crates than for that for which the most does."""
-    most = max((behind[it] for it in crates), default=0)
-    return {it: most - behind[it] for it in crates}
+    most = max((waiting[it] for it in crates), default=0)
+    return {it: most - waiting[it] for it in crates}
 
 
 def processors(rt):
@@ -276,15 +276,15 @@ def processors(rt):
 
 
 def prove_side_by_side(rt, left, progress):
-    """Proves these crates, each when those below it are, and those with the most work behind them first."""
+    """Proves these crates, each when those below it are, and those for which the most work waits first."""
     memory, running = SHARE_OF_MEMORY * rt.free(), []
     needs = {it: SHARE_OF_NEED * rt.need(it) for it in left}
     below = {it: {*it.below()} for it in left}  # which takes a while to find
-    behind = work_behind(left, below)
-    left = sorted(left, key=lambda it: -behind[it])
+    waiting = work_waiting(left, below)
+    left = sorted(left, key=lambda it: -waiting[it])
     try:
         while left or running:
-            start_next(rt, left, running, memory, needs, below, behind)
+            start_next(rt, left, running, memory, needs, below, waiting)
             progress.tell([it.crate.name for it in running] or ["waiting for another rt to end"])
             time.sleep(0.5)
             for step in [it for it in running if it.has_ended()]:
