@@ -196,9 +196,9 @@ ends_in_group p c old now h = record {
 -- ---- the law
 
 pub commits_are_shown : CommitsAreShown
-commits_are_shown core is up before behind x parts caller client r reply t event told none found ongoing enough =
-    let by = (trail_tells core is before behind x parts).ended caller client r reply t event told none found ongoing in
-    let done = (completes_over_a_trail core is before behind x parts _ t _ by enough).world up in
+commits_are_shown core is up before later x parts caller client r reply t event told none found ongoing enough =
+    let by = (trail_tells core is before later x parts).ended caller client r reply t event told none found ongoing in
+    let done = (completes_over_a_trail core is before later x parts _ t _ by enough).world up in
     record {
       logs = each_weaker _ _ (ends_at _ core.world t.pair.producer _ (is.logs up)) t.partitions done.logs;
       groups = each_weaker _ _ (λ g. ends_in_group t.pair.producer _ _ _) t.groups done.groups;

@@ -68,8 +68,8 @@ split (x ∷ xs) [] cs pair o e h =
     record { between = []; after = xs; events = ap (λ y. y ∷ xs) (decision_is x pair o front); nothing = tt }
 split (x ∷ xs) (b ∷ bs) cs pair o e h =
     let front : event_entry x ≡ b = cc in
-    let behind : map event_entry xs ≡ bs ++ Marker pair o ∷ cs = cc in
-    let rest = split xs bs cs pair o behind h.1 in
+    let later : map event_entry xs ≡ bs ++ Marker pair o ∷ cs = cc in
+    let rest = split xs bs cs pair o later h.1 in
     record {
       between = x ∷ rest.between;
       after = rest.after;
@@ -110,11 +110,11 @@ undecided p k (Put o ∷ es) h = undecided p (k + 1) es h.1
 undecided p k (Stage q o ∷ es) h = undecided p (k + 1) es h.1
 undecided p k (Decide q d ∷ es) h = ap (λ b. cond b (Some (record { place = k; outcome = d })) (first_decision p (k + 1) es)) (other_number q p h.0) ∙ undecided p (k + 1) es h.1
 
-first_is : (p : ℤ) (d : TransactionResult) (behind between after : List OffsetEvent) → first_decision p 0 behind ≡ None → Each (IsNotBy p) between
-    → option_map (λ x. x.outcome) (first_decision p 0 (behind ++ (between ++ Decide p d ∷ after))) ≡ Some d
-first_is p d behind between after none nothing =
+first_is : (p : ℤ) (d : TransactionResult) (later between after : List OffsetEvent) → first_decision p 0 later ≡ None → Each (IsNotBy p) between
+    → option_map (λ x. x.outcome) (first_decision p 0 (later ++ (between ++ Decide p d ∷ after))) ≡ Some d
+first_is p d later between after none nothing =
     let rest = Decide p d ∷ after in
-    let first = passed p 0 behind (between ++ rest) none in
+    let first = passed p 0 later (between ++ rest) none in
     let second = passed p first.place between rest (undecided p first.place between nothing) in
     ap (option_map (λ x. x.outcome)) (first.same ∙ second.same)
     ∙ ap (λ b. option_map (λ x. x.outcome) (cond b (Some (record { place = second.place; outcome = d })) (first_decision p (second.place + 1) after))) (own_number p)
@@ -150,16 +150,16 @@ decided old new pair o more ended =
     let p = pair.producer in
     let entries = cancelled (map event_entry old) (map event_entry more.more) (ended.between ++ Marker pair o ∷ ended.after) (sym (map-append event_entry old more.more) ∙ ap (map event_entry) (sym more.events) ∙ ended.log) in
     let is = split more.more ended.between ended.after pair o entries ended.nothing in
-    let behind = is.between ++ Decide p o ∷ is.after in
-    let goes_on : new ≡ old ++ behind = more.events ∙ ap (λ l. old ++ l) is.events in
+    let later = is.between ++ Decide p o ∷ is.after in
+    let goes_on : new ≡ old ++ later = more.events ∙ ap (λ l. old ++ l) is.events in
     record {
       between = is.between;
       after = is.after;
       events = goes_on ∙ sym (append_assoc old is.between (Decide p o ∷ is.after));
       nothing = is.nothing;
       staged = λ before after offset parts none. record {
-        more = behind;
-        events = goes_on ∙ ap (λ l. l ++ behind) parts ∙ append_assoc before (Stage p offset ∷ after) behind;
+        more = later;
+        events = goes_on ∙ ap (λ l. l ++ later) parts ∙ append_assoc before (Stage p offset ∷ after) later;
         first = first_is p o after is.between is.after none is.nothing;
       };
       shown = λ topic index. shows p o topic index old is.between is.nothing;

@@ -86,17 +86,17 @@ one_before producer o b bs other is = record {
   nothing = (other, is.nothing);
 }
 
-split : (bs : List BatchData) (before behind : List Entry) (pair : ProducerIdAndEpoch) (o : TransactionResult) → int_lt pair.producer (pos 0) ≡ false → map entry_of bs ≡ before ++ Marker pair o ∷ behind → Each (IsNotOf pair.producer) before → IsSplit pair.producer o bs
-split [] [] behind pair o sign e h = absurd (let clash : [] ≡ Marker pair o ∷ behind = e in cc)
-split [] (x ∷ before) behind pair o sign e h = absurd (let clash : [] ≡ x ∷ (before ++ Marker pair o ∷ behind) = e in cc)
-split (b ∷ bs) [] behind pair o sign e h =
+split : (bs : List BatchData) (before later : List Entry) (pair : ProducerIdAndEpoch) (o : TransactionResult) → int_lt pair.producer (pos 0) ≡ false → map entry_of bs ≡ before ++ Marker pair o ∷ later → Each (IsNotOf pair.producer) before → IsSplit pair.producer o bs
+split [] [] later pair o sign e h = absurd (let clash : [] ≡ Marker pair o ∷ later = e in cc)
+split [] (x ∷ before) later pair o sign e h = absurd (let clash : [] ≡ x ∷ (before ++ Marker pair o ∷ later) = e in cc)
+split (b ∷ bs) [] later pair o sign e h =
     let front : entry_of b ≡ Marker pair o = cc in
     let is = marker_is b pair o front in
     record { between = []; marker = b; after = bs; parts = refl; by = is.0; ends = is.1; nothing = tt }
-split (b ∷ bs) (x ∷ before) behind pair o sign e h =
+split (b ∷ bs) (x ∷ before) later pair o sign e h =
     let front : entry_of b ≡ x = cc in
-    let later : map entry_of bs ≡ before ++ Marker pair o ∷ behind = cc in
-    one_before pair.producer o b bs (not_from pair.producer sign b (subst (IsNotOf pair.producer) (sym front) h.0)) (split bs before behind pair o sign later h.1)
+    let entries : map entry_of bs ≡ before ++ Marker pair o ∷ later = cc in
+    one_before pair.producer o b bs (not_from pair.producer sign b (subst (IsNotOf pair.producer) (sym front) h.0)) (split bs before later pair o sign entries h.1)
 
 -- ---- the first marker
 
@@ -137,23 +137,23 @@ both true false h = absurd (let clash : false ≡ true = h in cc)
 both false b h = absurd (let clash : false ≡ true = h in cc)
 
 -- a transactional batch of data is committed where its transaction was
-committed_as : (b : BatchData) (behind : List BatchData) (o : TransactionResult) → is_transactional_data b ≡ true → transaction_outcome b behind ≡ Some o → is_committed b behind ≡ is_commit (Some o)
-committed_as b behind o kind told =
+committed_as : (b : BatchData) (later : List BatchData) (o : TransactionResult) → is_transactional_data b ≡ true → transaction_outcome b later ≡ Some o → is_committed b later ≡ is_commit (Some o)
+committed_as b later o kind told =
     let kinds = both (is_transactional b.header) (is_data b) kind in
-    ap (λ x. x && cond (is_transactional b.header) (is_commit (transaction_outcome b behind)) true) kinds.1
-    ∙ ap (λ x. cond x (is_commit (transaction_outcome b behind)) true) kinds.0
+    ap (λ x. x && cond (is_transactional b.header) (is_commit (transaction_outcome b later)) true) kinds.1
+    ∙ ap (λ x. cond x (is_commit (transaction_outcome b later)) true) kinds.0
     ∙ ap is_commit told
 
-ended_as : (p : ℤ) (o : TransactionResult) (b : BatchData) (behind between after : List BatchData) (m : BatchData) → Each (IsNotFrom p) between → m.header.producer_id ≡ p → m.marker ≡ Some o → b.header.producer_id ≡ p → is_open b behind ≡ true → IsEndedAs b (behind ++ (between ++ m ∷ after)) o
-ended_as p o b behind between after m nothing by ends own stands =
-    let parts = both (is_transactional_data b) (is_none (transaction_outcome b behind)) stands in
-    let none : first_marker p behind ≡ None = ap (λ n. first_marker n behind) (sym own) ∙ none_is (transaction_outcome b behind) parts.1 in
-    let told : transaction_outcome b (behind ++ (between ++ m ∷ after)) ≡ Some o =
-    ap (λ n. first_marker n (behind ++ (between ++ m ∷ after))) own
-    ∙ passed p behind (between ++ m ∷ after) none
+ended_as : (p : ℤ) (o : TransactionResult) (b : BatchData) (later between after : List BatchData) (m : BatchData) → Each (IsNotFrom p) between → m.header.producer_id ≡ p → m.marker ≡ Some o → b.header.producer_id ≡ p → is_open b later ≡ true → IsEndedAs b (later ++ (between ++ m ∷ after)) o
+ended_as p o b later between after m nothing by ends own stands =
+    let parts = both (is_transactional_data b) (is_none (transaction_outcome b later)) stands in
+    let none : first_marker p later ≡ None = ap (λ n. first_marker n later) (sym own) ∙ none_is (transaction_outcome b later) parts.1 in
+    let told : transaction_outcome b (later ++ (between ++ m ∷ after)) ≡ Some o =
+    ap (λ n. first_marker n (later ++ (between ++ m ∷ after))) own
+    ∙ passed p later (between ++ m ∷ after) none
     ∙ passed p between (m ∷ after) (no_marker p between nothing)
     ∙ at_marker p o m after by ends in
-    record { told = told; shown = committed_as b (behind ++ (between ++ m ∷ after)) o parts.0 told }
+    record { told = told; shown = committed_as b (later ++ (between ++ m ∷ after)) o parts.0 told }
 
 -- ---- nothing is open after a marker
 
@@ -206,7 +206,7 @@ ended_log old more pair o sign h =
       nothing = is.nothing;
       by = is.by;
       ends = is.ends;
-      opened = λ before behind b parts own stands. ended_as p o b behind is.between is.after is.marker is.nothing is.by is.ends own stands;
+      opened = λ before later b parts own stands. ended_as p o b later is.between is.after is.marker is.nothing is.by is.ends own stands;
       settled = ap least_of (none_open p o is.marker is.by is.ends (old ++ is.between));
     }
 

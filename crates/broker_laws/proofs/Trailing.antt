@@ -40,21 +40,21 @@ use Rattle.broker_laws.proofs.Cores.{in_cores}
 -- ---- a world
 
 -- what is prepared in a good world is completed where enough marker steps lead
-completed : (w : World) → IsGood w → (e : Event) (id : List ℕ) (t : Transaction) (o : TransactionResult) (behind : List Event) → IsPreparedBy w e id t o → up_to_last (step w e).coordinator.warrants id ≤ count_of_mark_events behind → IsCompleted w (world_after_events (step w e) behind) e t o
-completed w good e id t o behind by enough = record {
-  markers = prepared_completes w good e id t o behind by enough;
-  logs = prepared_ends w good e id t o behind by enough;
-  groups = prepared_decides w good e id t o behind by enough;
+completed : (w : World) → IsGood w → (e : Event) (id : List ℕ) (t : Transaction) (o : TransactionResult) (later : List Event) → IsPreparedBy w e id t o → up_to_last (step w e).coordinator.warrants id ≤ count_of_mark_events later → IsCompleted w (world_after_events (step w e) later) e t o
+completed w good e id t o later by enough = record {
+  markers = prepared_completes w good e id t o later by enough;
+  logs = prepared_ends w good e id t o later by enough;
+  groups = prepared_decides w good e id t o later by enough;
 }
 
-complete_record : (w : World) → IsGood w → (e : Event) (id : List ℕ) (t : Transaction) (o : TransactionResult) (behind : List Event) → IsPreparedBy w e id t o → up_to_last (step w e).coordinator.warrants id ≤ count_of_mark_events behind → IsCompletedBy (step w e) behind id o
-complete_record w good e id t o behind by enough = ends behind (step w e) (good_step w e good) id by.transaction o by.after by.waits enough
+complete_record : (w : World) → IsGood w → (e : Event) (id : List ℕ) (t : Transaction) (o : TransactionResult) (later : List Event) → IsPreparedBy w e id t o → up_to_last (step w e).coordinator.warrants id ≤ count_of_mark_events later → IsCompletedBy (step w e) later id o
+complete_record w good e id t o later by enough = ends later (step w e) (good_step w e good) id by.transaction o by.after by.waits enough
 
-completed_in : (core : CoreValue) (w : World) → IsGood w → (e : Event) (id : List ℕ) (t : Transaction) (o : TransactionResult) (behind : List Event) → (core.down ≡ false → core.world ≡ world_after_events (step w e) behind) → Each IsUnrefusedMark core.trail → IsPreparedBy w e id t o
-    → up_to_last (step w e).coordinator.warrants id ≤ count_of_mark_events behind → IsCompletedIn core w e behind id t o
-completed_in core w good e id t o behind leads unrefused by enough = record {
-  world = λ up. subst (λ v. IsCompleted w v e t o) (sym (leads up)) (completed w good e id t o behind by enough);
-  record_complete = complete_record w good e id t o behind by enough;
+completed_in : (core : CoreValue) (w : World) → IsGood w → (e : Event) (id : List ℕ) (t : Transaction) (o : TransactionResult) (later : List Event) → (core.down ≡ false → core.world ≡ world_after_events (step w e) later) → Each IsUnrefusedMark core.trail → IsPreparedBy w e id t o
+    → up_to_last (step w e).coordinator.warrants id ≤ count_of_mark_events later → IsCompletedIn core w e later id t o
+completed_in core w good e id t o later leads unrefused by enough = record {
+  world = λ up. subst (λ v. IsCompleted w v e t o) (sym (leads up)) (completed w good e id t o later by enough);
+  record_complete = complete_record w good e id t o later by enough;
   unrefused = unrefused;
 }
 
@@ -71,57 +71,57 @@ history_unrefused w (e ∷ es) = (λ is. ap (refusals_of w) is ∙ marks_are_not
 trail_unrefused : (core : CoreValue) → IsHistory core → Each IsUnrefusedMark core.trail
 trail_unrefused core h = subst (Each IsUnrefusedMark) (sym h.entries) (history_unrefused (first_world core.settings) (events_of core.trail))
 
-trail_leads : (core : CoreValue) → IsHistory core → (before behind : List Entry) (x : Entry) → core.trail ≡ before ++ x ∷ behind → core.down ≡ false → core.world ≡ world_after_events (step (world_after_entries core before) x.event) (events_of behind)
-trail_leads core h before behind x parts up =
+trail_leads : (core : CoreValue) → IsHistory core → (before later : List Entry) (x : Entry) → core.trail ≡ before ++ x ∷ later → core.down ≡ false → core.world ≡ world_after_events (step (world_after_entries core before) x.event) (events_of later)
+trail_leads core h before later x parts up =
     let first = first_world core.settings in
     h.world up
     ∙ ap (λ l. world_after_events first (events_of l)) parts
-    ∙ ap (world_after_events first) (map-append (λ (y : Entry). y.event) before (x ∷ behind))
-    ∙ reached_append first (events_of before) (x.event ∷ events_of behind)
+    ∙ ap (world_after_events first) (map-append (λ (y : Entry). y.event) before (x ∷ later))
+    ∙ reached_append first (events_of before) (x.event ∷ events_of later)
 
 pub completes_over_a_trail : CompletesOverATrail
-completes_over_a_trail core is before behind x parts id t o by enough =
-    completed_in core (world_after_entries core before) (good core.settings (events_of before)) x.event id t o (events_of behind)
-    (trail_leads core is.history before behind x parts)
+completes_over_a_trail core is before later x parts id t o by enough =
+    completed_in core (world_after_entries core before) (good core.settings (events_of before)) x.event id t o (events_of later)
+    (trail_leads core is.history before later x parts)
     (trail_unrefused core is.history)
     by enough
 
 -- ---- an entry
 
-history_at : (w : World) (before behind : List Event) (e : Event) → slice_get (history w (before ++ e ∷ behind)) (length before) ≡ Some (entry_of (world_after_events w before) e)
-history_at w [] behind e = refl
-history_at w (x ∷ xs) behind e = history_at (step w x) xs behind e
+history_at : (w : World) (before later : List Event) (e : Event) → slice_get (history w (before ++ e ∷ later)) (length before) ≡ Some (entry_of (world_after_events w before) e)
+history_at w [] later e = refl
+history_at w (x ∷ xs) later e = history_at (step w x) xs later e
 
-get_at : (before behind : List Entry) (x : Entry) → slice_get (before ++ x ∷ behind) (length before) ≡ Some x
-get_at [] behind x = refl
-get_at (y ∷ ys) behind x = get_at ys behind x
+get_at : (before later : List Entry) (x : Entry) → slice_get (before ++ x ∷ later) (length before) ≡ Some x
+get_at [] later x = refl
+get_at (y ∷ ys) later x = get_at ys later x
 
 -- it is what is kept of its event, in the world in which that was taken
-entry_is : (core : CoreValue) → IsHistory core → (before behind : List Entry) (x : Entry) → core.trail ≡ before ++ x ∷ behind → x ≡ entry_of (world_after_entries core before) x.event
-entry_is core h before behind x parts =
+entry_is : (core : CoreValue) → IsHistory core → (before later : List Entry) (x : Entry) → core.trail ≡ before ++ x ∷ later → x ≡ entry_of (world_after_entries core before) x.event
+entry_is core h before later x parts =
     let first = first_world core.settings in
-    let events = ap events_of parts ∙ map-append (λ (y : Entry). y.event) before (x ∷ behind) in
+    let events = ap events_of parts ∙ map-append (λ (y : Entry). y.event) before (x ∷ later) in
     let place : length before ≡ length (events_of before) = sym (length-map before (λ (y : Entry). y.event)) in
     let told : slice_get core.trail (length before) ≡ Some (entry_of (world_after_entries core before) x.event) =
     ap (λ l. slice_get l (length before)) (h.entries ∙ ap (history first) events)
-    ∙ ap (slice_get (history first (events_of before ++ x.event ∷ events_of behind))) place
-    ∙ history_at first (events_of before) (events_of behind) x.event in
-    let twice : Some x ≡ Some (entry_of (world_after_entries core before) x.event) = sym (ap (λ l. slice_get l (length before)) parts ∙ get_at before behind x) ∙ told in
+    ∙ ap (slice_get (history first (events_of before ++ x.event ∷ events_of later))) place
+    ∙ history_at first (events_of before) (events_of later) x.event in
+    let twice : Some x ≡ Some (entry_of (world_after_entries core before) x.event) = sym (ap (λ l. slice_get l (length before)) parts ∙ get_at before later x) ∙ told in
     cc
 
-reply_is : (core : CoreValue) → IsHistory core → (before behind : List Entry) (x : Entry) → core.trail ≡ before ++ x ∷ behind → (e : Event) → x.event ≡ e → x.reply ≡ reply_to (world_after_entries core before) e
-reply_is core h before behind x parts e is = ap (λ (y : Entry). y.reply) (entry_is core h before behind x parts) ∙ ap (reply_to (world_after_entries core before)) is
+reply_is : (core : CoreValue) → IsHistory core → (before later : List Entry) (x : Entry) → core.trail ≡ before ++ x ∷ later → (e : Event) → x.event ≡ e → x.reply ≡ reply_to (world_after_entries core before) e
+reply_is core h before later x parts e is = ap (λ (y : Entry). y.reply) (entry_is core h before later x parts) ∙ ap (reply_to (world_after_entries core before)) is
 
 pub trail_tells : TrailTells
-trail_tells core is before behind x parts =
+trail_tells core is before later x parts =
     let w = world_after_entries core before in
     record {
       ended = λ caller client r reply t event told none found ongoing.
           let e = Ask caller client (EndTxn r) in
-          subst (λ y. IsPreparedBy w y (ending_id r) t (ending_outcome r)) (sym event) ((prepares w).ended caller client r reply t found ongoing (sym (reply_is core is.history before behind x parts e event) ∙ told) none);
+          subst (λ y. IsPreparedBy w y (ending_id r) t (ending_outcome r)) (sym event) ((prepares w).ended caller client r reply t found ongoing (sym (reply_is core is.history before later x parts e event) ∙ told) none);
       taken_over = λ caller client r id t event own reply found ongoing.
           let e = Ask caller client (InitProducerId r) in
-          subst (λ y. IsPreparedBy w y id t Abort) (sym event) ((prepares w).taken_over caller client r id t own found ongoing (sym (reply_is core is.history before behind x parts e event) ∙ reply));
+          subst (λ y. IsPreparedBy w y id t Abort) (sym event) ((prepares w).taken_over caller client r id t own found ongoing (sym (reply_is core is.history before later x parts e event) ∙ reply));
       timed_out = λ told id t event found due. subst (λ y. IsPreparedBy w y id t Abort) (sym event) ((prepares w).timed_out told id t found due);
     }
 
@@ -183,22 +183,22 @@ ran_leads old new (e ∷ es) (r ∷ rs) stop run (x ∷ taken) rest parts same u
     ∙ ap (λ y. world_after_events (step old.world y) taken) (same_first e x es (taken ++ rest) parts)
 
 -- a core that took an event was up
-ran_up : (old new : CoreValue) (es : List Event) (rs : List ReceiptValue) (stop : Option Stop) → IsRun old es rs stop new → (before behind : List Event) (e : Event) → length rs ≡ length (before ++ e ∷ behind) → old.down ≡ false
-ran_up old new [] (r ∷ rs) stop run before behind e same = absurd run
-ran_up old new (x ∷ es) (r ∷ rs) stop run before behind e same = run.0.up
-ran_up old new es [] stop run [] behind e same = absurd (omega (arith, same))
-ran_up old new es [] stop run (y ∷ before) behind e same = absurd (omega (arith, same))
+ran_up : (old new : CoreValue) (es : List Event) (rs : List ReceiptValue) (stop : Option Stop) → IsRun old es rs stop new → (before later : List Event) (e : Event) → length rs ≡ length (before ++ e ∷ later) → old.down ≡ false
+ran_up old new [] (r ∷ rs) stop run before later e same = absurd run
+ran_up old new (x ∷ es) (r ∷ rs) stop run before later e same = run.0.up
+ran_up old new es [] stop run [] later e same = absurd (omega (arith, same))
+ran_up old new es [] stop run (y ∷ before) later e same = absurd (omega (arith, same))
 
 pub completes_over_a_run : CompletesOverARun
-completes_over_a_run old new es rs stop is (inr none) before behind rest e parts same id t o by enough = absurd (no_receipt none.0 before behind e same) where
-  no_receipt : rs ≡ [] → (before behind : List Event) (e : Event) → length rs ≡ length (before ++ e ∷ behind) → ⊥
-  no_receipt none [] behind e same = let zero = ap length none in omega (arith, same, zero)
-  no_receipt none (x ∷ before) behind e same = let zero = ap length none in omega (arith, same, zero)
-completes_over_a_run old new es rs stop is (inl run) before behind rest e parts same id t o by enough =
-    let up = ran_up old new es rs stop run before behind e same in
+completes_over_a_run old new es rs stop is (inr none) before later rest e parts same id t o by enough = absurd (no_receipt none.0 before later e same) where
+  no_receipt : rs ≡ [] → (before later : List Event) (e : Event) → length rs ≡ length (before ++ e ∷ later) → ⊥
+  no_receipt none [] later e same = let zero = ap length none in omega (arith, same, zero)
+  no_receipt none (x ∷ before) later e same = let zero = ap length none in omega (arith, same, zero)
+completes_over_a_run old new es rs stop is (inl run) before later rest e parts same id t o by enough =
+    let up = ran_up old new es rs stop run before later e same in
     let here : IsGood old.world = subst IsGood (sym (is.history.world up)) (good old.settings (events_of old.trail)) in
-    completed_in new (world_after_events old.world before) (good_reached old.world before here) e id t o behind
-    (λ now. ran_leads old new es rs stop run (before ++ e ∷ behind) rest (parts ∙ sym (append_assoc before (e ∷ behind) rest)) same now ∙ reached_append old.world before (e ∷ behind))
+    completed_in new (world_after_events old.world before) (good_reached old.world before here) e id t o later
+    (λ now. ran_leads old new es rs stop run (before ++ e ∷ later) rest (parts ∙ sym (append_assoc before (e ∷ later) rest)) same now ∙ reached_append old.world before (e ∷ later))
     (ran_unrefused old new es rs stop run (trail_unrefused old is.history))
     by enough
 

@@ -204,8 +204,8 @@ given_is member [] = refl
 given_is member (a ∷ rest) = by_test (bytes_eq a.member member) refl (given_is member rest) where
   by_test : (b : Bool) → bytes_eq a.member member ≡ b → IsGiven member rest (given_to member rest)
       → IsGiven member (a ∷ rest) (unwrap_or (option_map (λ (g : MemberAssignment). g.assignment) (cond b (Some a) (find (λ (g : MemberAssignment). bytes_eq g.member member) rest))) [])
-  by_test true e behind = (λ same. refl, λ other. absurd (other (text_is a.member member e)))
-  by_test false e behind = (λ same. absurd (true≢false (sym (text_same a.member member same) ∙ e)), λ other. behind)
+  by_test true e later = (λ same. refl, λ other. absurd (other (text_is a.member member e)))
+  by_test false e later = (λ same. absurd (true≢false (sym (text_same a.member member same) ∙ e)), λ other. later)
 
 pub record IsSynced (g : Group) (r : SyncGroupRequest) (moment : ℕ) (t : GroupTransition (List ℕ)) : Type 0 where
   pub is : t ≡ Puts (assignment_of g r) (record (heard_at moment g) { assignment = Some (assignment_of g r) })

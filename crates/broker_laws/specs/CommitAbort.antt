@@ -112,9 +112,9 @@ pub record EndsThrough (old later : World) (committed : Bool) (t : Transaction) 
 -- Where the trail of a core holds an EndTxn of an open transaction that was answered no error, and after it as many marker steps as
 -- markers were pending then up to and including its last one, the transaction is ended as the client said.
 abbrev pub CommitsAreShown : Type 0
-CommitsAreShown = (core : CoreValue) → IsCore core → core.down ≡ false → (before behind : List Entry) (x : Entry) → core.trail ≡ before ++ x ∷ behind
+CommitsAreShown = (core : CoreValue) → IsCore core → core.down ≡ false → (before later : List Entry) (x : Entry) → core.trail ≡ before ++ x ∷ later
     → (caller : Caller) (client : Option (List ℕ)) (r : EndTxnRequest) (reply : EndTxnReply) (t : Transaction)
     → x.event ≡ Ask caller client (EndTxn r) → x.reply ≡ replies.EndTxn reply → error_of reply ≡ codes.None
     → id_record (world_after_entries core before).coordinator.transactions (end_txn_of r).transactional_id ≡ Some t → t.state ≡ Ongoing
-    → up_to_last (step (world_after_entries core before) x.event).coordinator.warrants (end_txn_of r).transactional_id ≤ count_of_mark_events (events_of behind)
+    → up_to_last (step (world_after_entries core before) x.event).coordinator.warrants (end_txn_of r).transactional_id ≤ count_of_mark_events (events_of later)
     → EndsThrough (world_after_entries core before) core.world (end_txn_of r).committed t

@@ -172,10 +172,10 @@ IsNotBy producer (Stage p o) = p ≡ producer → ⊥
 IsNotBy producer (Decide p outcome) = p ≡ producer → ⊥
 
 -- among new events, an offset that the producer staged between these has that outcome as its first decision
-pub record IsDecidedAs (producer : ℤ) (outcome : TransactionResult) (new before behind : List OffsetEvent) (o : PartitionOffset) : Type 0 where
+pub record IsDecidedAs (producer : ℤ) (outcome : TransactionResult) (new before later : List OffsetEvent) (o : PartitionOffset) : Type 0 where
   pub more : List OffsetEvent
-  pub events : new ≡ before ++ Stage producer o ∷ (behind ++ more)
-  pub first : option_map (λ d. d.outcome) (first_decision producer 0 (behind ++ more)) ≡ Some outcome
+  pub events : new ≡ before ++ Stage producer o ∷ (later ++ more)
+  pub first : option_map (λ d. d.outcome) (first_decision producer 0 (later ++ more)) ≡ Some outcome
 
 -- the committed offset after a decision, given the offset that waited for it and the committed one before it
 abbrev pub committed_after : TransactionResult → Option PartitionOffset → Option PartitionOffset → Option PartitionOffset
@@ -190,7 +190,7 @@ pub record IsDecided (producer : ℤ) (outcome : TransactionResult) (old new : L
   pub events : new ≡ (old ++ between) ++ Decide producer outcome ∷ after
   pub nothing : Each (IsNotBy producer) between
   -- so each offset that the producer had staged and that waited is decided so
-  pub staged : (before behind : List OffsetEvent) (o : PartitionOffset) → old ≡ before ++ Stage producer o ∷ behind → first_decision producer 0 behind ≡ None → IsDecidedAs producer outcome new before behind o
+  pub staged : (before later : List OffsetEvent) (o : PartitionOffset) → old ≡ before ++ Stage producer o ∷ later → first_decision producer 0 later ≡ None → IsDecidedAs producer outcome new before later o
   -- and the decision shows of each partition the offset that had waited, if it is a commit, and nothing else
   pub shown : (topic : List ℕ) (index : ℤ) → offset_of ((old ++ between) ++ Decide producer outcome ∷ []) topic index ≡ committed_after outcome (pending_offset old producer topic index) (offset_of (old ++ between) topic index)
   -- and leaves nothing of the producer waiting

@@ -32,9 +32,9 @@ LogsGoOn w = (e : Event) (p : TopicPartition) (log : LogValue) → log_at w.topi
 -- ---- what was open is ended
 
 -- with these batches after it, the batch's transaction ended so: its records are committed, or they aren't
-pub record IsEndedAs (b : BatchData) (behind : List BatchData) (outcome : TransactionResult) : Type 0 where
-  pub told : transaction_outcome b behind ≡ Some outcome
-  pub shown : is_committed b behind ≡ is_commit (Some outcome)
+pub record IsEndedAs (b : BatchData) (later : List BatchData) (outcome : TransactionResult) : Type 0 where
+  pub told : transaction_outcome b later ≡ Some outcome
+  pub shown : is_committed b later ≡ is_commit (Some outcome)
 
 -- the batch isn't of the producer
 abbrev pub IsNotFrom : ℤ → BatchData → Type 0
@@ -51,7 +51,7 @@ pub record IsEndedLog (producer : ℤ) (outcome : TransactionResult) (old new : 
   pub by : marker.header.producer_id ≡ producer
   pub ends : marker.marker ≡ Some outcome
   -- so each batch of the producer that stood open is ended so, by what stands after it now
-  pub opened : (before behind : List BatchData) (b : BatchData) → old ≡ before ++ b ∷ behind → b.header.producer_id ≡ producer → is_open b behind ≡ true → IsEndedAs b (behind ++ (between ++ marker ∷ after)) outcome
+  pub opened : (before later : List BatchData) (b : BatchData) → old ≡ before ++ b ∷ later → b.header.producer_id ≡ producer → is_open b later ≡ true → IsEndedAs b (later ++ (between ++ marker ∷ after)) outcome
   -- and after the marker nothing of the producer is open
   pub settled : open_at producer ((old ++ between) ++ marker ∷ []) ≡ None
 

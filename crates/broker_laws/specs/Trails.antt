@@ -54,11 +54,11 @@ abbrev pub IsUnrefusedMark : Entry → Type 0
 IsUnrefusedMark x = x.event ≡ Mark → x.refusals ≡ []
 
 -- what a core shows of a transaction that an event of the old world prepared, and after it enough marker steps completed
-pub record IsCompletedIn (core : CoreValue) (old : World) (e : Event) (behind : List Event) (id : List ℕ) (t : Transaction) (outcome : TransactionResult) : Type 0 where
+pub record IsCompletedIn (core : CoreValue) (old : World) (e : Event) (later : List Event) (id : List ℕ) (t : Transaction) (outcome : TransactionResult) : Type 0 where
   -- in its world, unless it is down
   pub world : core.down ≡ false → IsCompleted old core.world e t outcome
   -- after some of the events the id's record was complete
-  pub record_complete : IsCompletedBy (step old e) behind id outcome
+  pub record_complete : IsCompletedBy (step old e) later id outcome
   -- and no marker step of the trail was refused
   pub unrefused : Each IsUnrefusedMark core.trail
 
@@ -80,15 +80,15 @@ pub record TellsOf (w : World) (x : Entry) : Type 0 where
   pub timed_out : (told : ℕ) (id : List ℕ) (t : Transaction) → x.event ≡ Tick told → id_record w.coordinator.transactions id ≡ Some t → is_due (moment_after w.moment told) t ≡ true → IsPreparedBy w x.event id t Abort
 
 abbrev pub TrailTells : Type 0
-TrailTells = (core : CoreValue) → IsCore core → (before behind : List Entry) (x : Entry) → core.trail ≡ before ++ x ∷ behind → TellsOf (world_after_entries core before) x
+TrailTells = (core : CoreValue) → IsCore core → (before later : List Entry) (x : Entry) → core.trail ≡ before ++ x ∷ later → TellsOf (world_after_entries core before) x
 
 -- If the event of an entry prepared a transaction, and after it stand as many marker steps as markers stood then up to
 -- and including its last one, it is completed.
 abbrev pub CompletesOverATrail : Type 0
-CompletesOverATrail = (core : CoreValue) → IsCore core → (before behind : List Entry) (x : Entry) → core.trail ≡ before ++ x ∷ behind
+CompletesOverATrail = (core : CoreValue) → IsCore core → (before later : List Entry) (x : Entry) → core.trail ≡ before ++ x ∷ later
     → (id : List ℕ) (t : Transaction) (outcome : TransactionResult) → IsPreparedBy (world_after_entries core before) x.event id t outcome
-    → up_to_last (step (world_after_entries core before) x.event).coordinator.warrants id ≤ count_of_mark_events (events_of behind)
-    → IsCompletedIn core (world_after_entries core before) x.event (events_of behind) id t outcome
+    → up_to_last (step (world_after_entries core before) x.event).coordinator.warrants id ≤ count_of_mark_events (events_of later)
+    → IsCompletedIn core (world_after_entries core before) x.event (events_of later) id t outcome
 
 -- There is no need to count where a marker step after it found nothing to write.
 abbrev pub CompletesBeforeIdle : Type 0
@@ -103,10 +103,10 @@ CompletesBeforeIdle = (core : CoreValue) → IsCore core → (before between res
 -- all but the rest.
 abbrev pub CompletesOverARun : Type 0
 CompletesOverARun = (old new : CoreValue) (es : List Event) (rs : List ReceiptValue) (stop : Option Stop) → IsCore old → IsRun old es rs stop new ⊎ NoMemoryForReceipts old rs stop new
-    → (before behind rest : List Event) (e : Event) → es ≡ before ++ e ∷ (behind ++ rest) → length rs ≡ length (before ++ e ∷ behind)
+    → (before later rest : List Event) (e : Event) → es ≡ before ++ e ∷ (later ++ rest) → length rs ≡ length (before ++ e ∷ later)
     → (id : List ℕ) (t : Transaction) (outcome : TransactionResult) → IsPreparedBy (world_after_events old.world before) e id t outcome
-    → up_to_last (step (world_after_events old.world before) e).coordinator.warrants id ≤ count_of_mark_events behind
-    → IsCompletedIn new (world_after_events old.world before) e behind id t outcome
+    → up_to_last (step (world_after_events old.world before) e).coordinator.warrants id ≤ count_of_mark_events later
+    → IsCompletedIn new (world_after_events old.world before) e later id t outcome
 
 -- ---- fencing
 
