@@ -30,13 +30,14 @@ impl Flags {
         }
     }
 
-    /// Waits until a flag is set, for at most 10,000 sleeps of a millisecond; then sets `late`.
+    /// Waits until a flag is set, for at most 100 sleeps of a tenth of a second; then sets `late`. They are few, so that they last
+    /// little longer on a busy machine; and they are counted, so that a process that stands still isn't late.
     fn wait<R: time::Clock>(&self, rt: &R, flag: &AtomicU64) {
-        for _ in 0..10_000 {
+        for _ in 0..100 {
             if flag.load(Ordering::SeqCst) != 0 {
                 return;
             }
-            thread::sleep(rt, Duration::from_millis(1));
+            thread::sleep(rt, Duration::from_millis(100));
         }
         self.late.store(1, Ordering::SeqCst);
     }

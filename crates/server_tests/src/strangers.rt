@@ -293,20 +293,20 @@ fn where_no_seat_is_left(rt: HostRuntime) -> Result<(), Fail> {
     Ok(())
 }
 
-/// A connection that the server doesn't close within 100 milliseconds, out of up to 1,000 tries; else `None`.
-fn let_in<R: Net<Stream = TcpStream> + time::Clock>(
+/// Whether one is answered of up to 100 clients that come one after the other, with a tenth of a second between two; those before
+/// it are turned away. That lasts less than the 20 seconds after which the server lets go of a connection that asks nothing.
+fn is_let_in<R: Net<Stream = TcpStream> + time::Clock>(
     rt: &R,
+    alloc: Global,
     address: SocketAddr,
-) -> Result<Option<TcpStream>, Fail> {
-    for _ in 0..1_000 {
-        let mut client = TcpStream::connect(rt, address)?;
-        client.set_read_timeout(Some(Duration::from_millis(100)))?;
-        if client.read(&mut [0]).is_err() {
-            return Ok(Some(client));
+) -> Result<bool, Fail> {
+    for _ in 0..100 {
+        if is_answered(alloc, TcpStream::connect(rt, address)?)? {
+            return Ok(true);
         }
-        thread::sleep(rt, Duration::from_millis(10));
+        thread::sleep(rt, Duration::from_millis(100));
     }
-    Ok(None)
+    Ok(false)
 }
 
 /// Whether a second connection of a host is closed at once while the first is open, and one that comes after the first has closed
@@ -319,10 +319,7 @@ fn one_at_a_time<R: Net<Stream = TcpStream> + time::Clock>(
     let open = TcpStream::connect(rt, address)?;
     let other_closed = is_closed(alloc, TcpStream::connect(rt, address)?);
     drop(open);
-    match let_in(rt, address)? {
-        Some(client) => Ok(other_closed && is_answered(alloc, client)?),
-        None => Ok(false),
-    }
+    Ok(other_closed && is_let_in(rt, alloc, address)?)
 }
 
 /// Where a host may have one connection, another one is turned away while it is open, and the next one is served.
