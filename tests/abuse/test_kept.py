@@ -1,5 +1,5 @@
-"""What the broker keeps of a small event, above the bytes of its frame, of a poll that is asked and answered as the one before, of
-a commit among polls, and of a short session.
+"""What the broker keeps of a small event, above the bytes of its frame, of one of ten partitions, of a poll that is asked and
+answered as the one before, of a commit among polls, and of a short session.
 
 Of an event it is the growth of the peak of memory from FEW events to MANY, less the event's line in the script, which `replay`
 holds too, and less the event's frame. FEW are so many that the peak is the program's, and not that of the process that starts
@@ -15,7 +15,8 @@ from kbroker_testing.protocol import batch, in_partition, logged_in, request_fra
 from tests.support import OF_ROOT, OF_SUPER, peak_of, script_line, topic
 
 FEW, MANY = 100_000, 200_000
-SETTINGS = OF_SUPER + "trail_limit = 1000000\n" + topic("t")
+TEN = range(10)
+SETTINGS = OF_SUPER + "trail_limit = 1000000\n" + topic("t") + topic("u", len(TEN))
 PLACE = ("t", 0)
 
 PRODUCE = script_line("Produce", acks=1, topics=in_partition(PLACE, records=batch([b"a"])))
@@ -35,6 +36,21 @@ LIMITS = {
     "a Fetch of one record": 450,
     "a Produce of one record": 450,
 }
+
+
+def in_ten(**fields):
+    """A list of one topic with ten partitions, each of which has these fields."""
+    return [{"topic": "u", "partitions": [{"index": it, **fields} for it in TEN]}]
+
+
+# As these take more, fewer are measured.
+FEW_OF_TEN, MANY_OF_TEN = 10_000, 30_000
+PRODUCE_TO_TEN = script_line("Produce", acks=1, topics=in_ten(records=batch([b"a"])))
+OF_TEN = {
+    "a Fetch of ten partitions": script_line("Fetch", isolation=0, max_bytes=1 << 20, topics=in_ten(offset=0, max_bytes=100)),
+    "a Produce to ten partitions": PRODUCE_TO_TEN,
+}
+LIMITS_OF_TEN = {"a Fetch of ten partitions": 3_000, "a Produce to ten partitions": 2_250}
 
 # What a consumer asks again and again, of a log without records and of a group: the fields of a request, and of one like it.
 POLLS = {
@@ -63,11 +79,11 @@ def frame_length(line):
     return len(words[-1]) // 2 if words[0] == "req" else 0
 
 
-def kept_of(line):
-    """The bytes of an event's line, of its frame, and what is kept above these. One record stands in the log before."""
-    few, many = (peak_of(SETTINGS + "---\n" + PRODUCE + line * count) for count in (FEW, MANY))
+def kept_of(line, before=PRODUCE, few=FEW, many=MANY):
+    """The bytes of an event's line, of its frame, and what is kept above these. One record stands in each log before."""
+    peak_of_few, peak_of_many = (peak_of(SETTINGS + "---\n" + before + line * count) for count in (few, many))
     own = frame_length(line)
-    return len(line), own, (many - few) / (MANY - FEW) - len(line) - own
+    return len(line), own, (peak_of_many - peak_of_few) / (many - few) - len(line) - own
 
 
 def poll(client, frames, count):
@@ -111,8 +127,8 @@ def kept_of_commit():
 
 
 def kept_of_session():
-    """The bytes that a server keeps of a session that logs in, asks the metadata of one topic, and ends."""
-    with ClockedKbroker(OF_ROOT + topic("t"), connections=FEW_SESSIONS + MORE_SESSIONS) as broker:
+    """The bytes that a server keeps of a session that logs in, asks the metadata of one topic, and ends. It waits for one more."""
+    with ClockedKbroker(OF_ROOT + topic("t"), connections=FEW_SESSIONS + MORE_SESSIONS + 1) as broker:
 
         def visit(count):
             for _ in range(count):
@@ -146,6 +162,13 @@ class Kept(unittest.TestCase):
                 self.assertLess(kept, LIMITS[name])
                 self.assertGreater(kept, 40)  # an entry: else it isn't the event that is measured
 
+    def test_events_of_ten_partitions_keep_little(self):
+        for name, line in OF_TEN.items():
+            with self.subTest(name):
+                _, _, kept = kept_of(line, PRODUCE_TO_TEN, FEW_OF_TEN, MANY_OF_TEN)
+                self.assertLess(kept, LIMITS_OF_TEN[name])
+                self.assertGreater(kept, 40 * len(TEN))  # an answer for each
+
     def test_a_poll_that_is_answered_as_before_keeps_an_entry(self):
         for api, (request, _) in POLLS.items():
             with self.subTest(api):
@@ -167,8 +190,9 @@ class Kept(unittest.TestCase):
         self.assertLess(kept_of_session(), LIMIT_OF_A_SESSION)
 
     def test_the_trail_keeps_no_password(self):
-        """A login's bytes go back before the session asks anything: so what is left of many is what was freed last."""
-        with ClockedKbroker(OF_ROOT + topic("t"), connections=FEW_SESSIONS) as broker:
+        """A login's bytes go back before the session asks anything: so what is left of many is what was freed last. The server is
+        looked at while it waits for one more."""
+        with ClockedKbroker(OF_ROOT + topic("t"), connections=FEW_SESSIONS + 1) as broker:
             for _ in range(FEW_SESSIONS):
                 with logged_in(broker.address) as client:
                     client.ask("Metadata", topics=["t"])
