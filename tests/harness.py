@@ -134,6 +134,7 @@ class Worker:
 
     def __init__(self, name, cases, nice=0):
         self.name, self.cases, self.began = name, cases, time.monotonic()
+        self.until = self.began + LIMIT
         self.said, self.report = tempfile.TemporaryFile(), tempfile.NamedTemporaryFile()
         words = [sys.executable, "-m", "tests.harness", "--run", name, "--report", self.report.name]
         told = {"stdout": self.said, "stderr": subprocess.STDOUT, "stdin": subprocess.DEVNULL}
@@ -141,7 +142,7 @@ class Worker:
 
     def has_ended(self):
         """Whether it has ended. One that takes too long is ended."""
-        if time.monotonic() - self.began > LIMIT:
+        if time.monotonic() > self.until:
             self.process.kill()
             self.process.wait()
         return self.process.poll() is not None
@@ -154,7 +155,8 @@ class Worker:
         self.report.close()
 
     def wait(self):
-        """Waits for its end, and gives what came of it."""
+        """Waits for its end, for the whole limit, since what ran beside it may have held it up; and gives what came of it."""
+        self.until = time.monotonic() + LIMIT
         while not self.has_ended():
             time.sleep(0.05)
         return self.count()

@@ -2,6 +2,7 @@
 
 import os
 import socket
+import struct
 import subprocess
 import sys
 import tempfile
@@ -99,6 +100,16 @@ def connect(address, timeout=PATIENCE):
     peer = socket.create_connection((host, int(port)), timeout)
     peer.setsockopt(socket.IPPROTO_TCP, socket.TCP_NODELAY, 1)
     return peer
+
+
+def is_read(peer):
+    """Whether the other end of a connection over IPv4 on this machine has read all that was sent, as /proc/net/tcp tells it."""
+    ends = peer.getsockname(), peer.getpeername()
+    here, there = (f"{struct.unpack('=I', socket.inet_aton(host))[0]:08X}:{port:04X}" for host, port in ends)
+    with open("/proc/net/tcp", encoding="ascii") as table:
+        queues = {(row[1], row[2]): row[4].split(":") for row in map(str.split, table)}
+    unacknowledged, unread = queues.get((here, there), "?")[0], queues.get((there, here), "??")[1]
+    return unacknowledged == unread == "00000000"
 
 
 class TooLate(Exception):

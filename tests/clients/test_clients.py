@@ -126,18 +126,20 @@ def sent(producer, topic_name, values):
     return [it for it in errors if it] + ["no answer came"] * left
 
 
-def read(address, topic_name, count, isolation="read_committed", wait=WAIT):
-    """The values of partition 0 from its start on: so many, or as many as come in time."""
+def read(address, topic_name, count, isolation="read_committed"):
+    """The values of partition 0 from its start on: so many, however late they come, and what comes in QUIET seconds after them."""
     consumer = kafka.Consumer(
         {**login(address), "group.id": "readers", "isolation.level": isolation, "enable.auto.commit": False}
     )
-    found, until = [], time.monotonic() + wait
+    found, until = [], time.monotonic() + (WAIT if count else QUIET)
     try:
         consumer.assign([kafka.TopicPartition(topic_name, 0, 0)])
-        while len(found) < count and time.monotonic() < until:
+        while time.monotonic() < until:
             message = consumer.poll(0.2)
             if message is not None and not message.error():
                 found.append(message.value())
+                if len(found) >= count:
+                    until = time.monotonic() + QUIET
     finally:
         consumer.close()
     return found
@@ -189,7 +191,7 @@ class ConfluentKafka(Clocked):
         """An idempotent producer's values come once and in order."""
         values = [str(it).encode() for it in range(300)]
         self.send(kafka.Producer({**login(self.address), "enable.idempotence": True}), "orders", *values)
-        self.assertEqual(read(self.address, "orders", len(values) + 1, wait=QUIET), values)
+        self.assertEqual(read(self.address, "orders", len(values)), values)
 
     @by_who_has_kafka
     def test_transactions_are_atomic(self):
@@ -200,8 +202,8 @@ class ConfluentKafka(Clocked):
         producer.begin_transaction()
         self.send(producer, "orders", b"dropped")
         producer.abort_transaction(WAIT)
-        self.assertEqual(read(self.address, "orders", 2, wait=QUIET), [b"kept"])
-        self.assertEqual(read(self.address, "orders", 3, isolation="read_uncommitted", wait=QUIET), [b"kept", b"dropped"])
+        self.assertEqual(read(self.address, "orders", 1), [b"kept"])
+        self.assertEqual(read(self.address, "orders", 2, isolation="read_uncommitted"), [b"kept", b"dropped"])
 
     @by_who_has_kafka
     def test_fencing_of_zombies(self):
@@ -216,7 +218,7 @@ class ConfluentKafka(Clocked):
         error = raised.exception.args[0]
         self.assertTrue(error.fatal(), error)
         self.assertIn(error.code(), (kafka.KafkaError._FENCED, kafka.KafkaError.PRODUCER_FENCED))
-        self.assertEqual(read(self.address, "orders", 2, wait=QUIET), [b"of the second"])
+        self.assertEqual(read(self.address, "orders", 1), [b"of the second"])
 
     @by_who_has_kafka
     def test_groups_go_on(self):
@@ -254,7 +256,7 @@ class ConfluentKafka(Clocked):
         [after] = consumer.committed([kafka.TopicPartition("orders", 0)], WAIT)
         consumer.close()
         self.assertEqual(after.offset, len(orders))
-        self.assertEqual(read(self.address, "payments", 4, wait=QUIET), [b"paid 1", b"paid 2", b"paid 3"])
+        self.assertEqual(read(self.address, "payments", 3), [b"paid 1", b"paid 2", b"paid 3"])
 
 
 class SteeredConfluentKafka(unittest.TestCase):
@@ -270,6 +272,6 @@ class SteeredConfluentKafka(unittest.TestCase):
         self.assertEqual(sent(producer, "orders", [b"kept"]), [])
         producer.commit_transaction(WAIT)
         self.assertEqual(broker.state().transactions["transfer"].state, "PrepareCommit")
-        self.assertEqual(read(broker.address, "orders", 1, wait=QUIET), [])
+        self.assertEqual(read(broker.address, "orders", 0), [])
         self.assertEqual([(it.outcome, it.name, it.index) for it in broker.marks()], [("commit", "orders", 0)])
-        self.assertEqual(read(broker.address, "orders", 2, wait=QUIET), [b"kept"])
+        self.assertEqual(read(broker.address, "orders", 1), [b"kept"])

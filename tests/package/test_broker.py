@@ -185,8 +185,8 @@ class Brokers(unittest.TestCase):
                 pass
         stays = self.program_of(f"{HELD_UP}    exec sleep 60\n")
         with Kbroker(OWN, program=stays) as broker:
-            with self.assertRaisesRegex(BrokerFailed, f"hasn't ended after 0.5 seconds.*{named}"):
-                broker.end(timeout=0.5)
+            with self.assertRaisesRegex(BrokerFailed, f"hasn't ended after 4 seconds.*{named}"):
+                broker.end(timeout=4)
             broker.kill()
         with self.assertRaisesRegex(BrokerFailed, r"says '', and tells \[\]$"):
             with Kbroker(OWN, program=self.program_of("#!/bin/sh\necho listening on 127.0.0.1:9092\nexit 1\n")) as broker:

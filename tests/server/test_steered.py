@@ -173,13 +173,6 @@ class Steered(unittest.TestCase):
         told = [UNREADABLE] * len(lines)
         wait_until(lambda: self.broker.told() == told, "it isn't told which lines there are")
 
-    def test_open_connections_are_served_to_their_end(self):
-        self.broker.process.stdin.write("end\n")
-        self.broker.process.stdin.flush()
-        self.assertEqual(self.bank.begin(), Code.NONE)
-        self.bank.close()
-        self.assertEqual(self.broker.settled()[0], Settled(1, 1, 0))
-
     def test_open_connections_are_told(self):
         self.broker.process.stdin.write("end\n")
         self.broker.process.stdin.flush()
@@ -188,7 +181,26 @@ class Steered(unittest.TestCase):
         self.assertEqual(self.broker.settled(), (Settled(1, 0, 0), [OPEN.format(1)]))
 
 
+class Unhurried(Kbroker):
+    """A steered broker that serves its open connections to their end: nothing is said of a grace."""
+
+    def words(self, settings):
+        return ["--control", "--settings", settings.name], subprocess.PIPE
+
+
 class Ends(unittest.TestCase):
+    def test_open_connections_are_served_to_their_end(self):
+        """They ask after the end was told, and are answered."""
+        with Unhurried(SETTINGS) as broker:
+            bank = Bank(broker.address)
+            self.addCleanup(bank.close)
+            broker.process.stdin.write("end\n")
+            broker.process.stdin.flush()
+            wait_until(lambda: broker.told() == [OPEN.format(1)], "it isn't told that a connection is open")
+            self.assertEqual(bank.begin(), Code.NONE)
+            bank.close()
+            self.assertEqual(broker.settled(), (Settled(1, 1, 0), [OPEN.format(1)]))
+
     def test_the_end_of_the_lines_is_an_end(self):
         with Kbroker(SETTINGS) as broker:
             broker.tick(1)

@@ -19,13 +19,13 @@ from pathlib import Path
 from kbroker_testing.broker import LAST, BrokerProcess, ClockedKbroker
 from kbroker_testing.codes import Code
 from kbroker_testing.protocol import batch, logged_in, partition_of, request_frame
-from tests.server.told import CLOSED, CUT, FULL, WRITE_FAILED, of_nobody, of_user
-from tests.support import OF_ROOT, connect, of_b, topic, wait_until
+from tests.server.told import CLOSED, CUT, FULL, WRITE_FAILED, of_nobody, of_user, without_waits
+from tests.support import OF_ROOT, connect, is_read, of_b, topic, wait_until
 
 ROOT = Path(__file__).resolve().parents[2]
 SETTINGS = OF_ROOT + topic("b")
 GRACE = 5  # seconds, if nothing is said of it
-LATE = 2  # seconds after the grace in which the last line comes
+LATE = 3.5  # seconds after the grace in which the last line comes; less than GRACE, so that a needless wait for it shows
 MOST = 64  # connections at once
 UNREAD = 32  # MB of an answer
 DRAWN = 3  # rounds of connections that ask all the time
@@ -107,14 +107,14 @@ class StoppingCase(unittest.TestCase):
         began = time.monotonic()
         settled, told = broker.settled(line, timeout=30)
         self.assertLess(time.monotonic() - began, grace + LATE)
-        return settled, told
+        return settled, without_waits(told)
 
     def ask_unread(self, client):
         """Asks for more than the sockets of both ends hold, and reads nothing of it."""
         answer = client.ask("Produce", topics=of_b(records=batch([bytes(1_000_000)])))
         self.assertEqual(partition_of(answer)["error"], Code.NONE)
         client.send("Fetch", max_bytes=UNREAD << 20, topics=of_b(offset=0, max_bytes=1 << 20) * UNREAD)
-        time.sleep(STARTED_WITHIN)
+        wait_until(lambda: is_read(client.socket), "the request isn't read")
 
     def assert_closed(self, peer):
         """Nothing more comes."""
@@ -159,7 +159,7 @@ class Inputs(StoppingCase):
         frame = request_frame("Metadata", 1, {"topics": None})
         with Stopped(SETTINGS) as broker, connect(broker.address) as peer:
             peer.sendall(frame[:-1])
-            time.sleep(STARTED_WITHIN)
+            wait_until(lambda: is_read(peer), "the bytes aren't read")
             settled, told = self.assert_stops(broker, 0)
             self.assert_closed(peer)
         self.assertEqual((settled.sessions, told), (1, [of_nobody(0, CUT)]))
@@ -168,7 +168,7 @@ class Inputs(StoppingCase):
         """It is answered, and nothing that was asked after the stop."""
         with Stopped(SETTINGS, more=("--librdkafka",)) as broker, logged_in(broker.address) as client:
             client.send("Fetch", max_wait=60_000, topics=of_b(offset=0, max_bytes=1_000))
-            time.sleep(0.05)
+            wait_until(lambda: is_read(client.socket), "the request isn't read")
             settled, told = self.assert_stops(broker, 0)
             self.assertEqual(partition_of(client.receive("Fetch")[1])["error"], Code.NONE)
             self.assert_closed(client.socket)
@@ -260,7 +260,8 @@ class Drawn(StoppingCase):
         """All have logged in before, so each is a session, however long the threads of this test take."""
         for seed in range(DRAWN):
             drawn, answered = random.Random(seed), []
-            with self.subTest(seed=seed), Stopped(SETTINGS, workers=MOST, more=("--librdkafka",)) as broker:
+            more = ("--librdkafka", "--grace", str(READ_WITHIN))
+            with self.subTest(seed=seed), Stopped(SETTINGS, workers=MOST, more=more) as broker:
                 threads = [
                     threading.Thread(
                         target=self.ask_until_closed,
@@ -271,7 +272,7 @@ class Drawn(StoppingCase):
                 for it in threads:
                     it.start()
                 time.sleep(0.5 + drawn.random())
-                settled, told = self.assert_stops(broker)
+                settled, told = self.assert_stops(broker, READ_WITHIN // 3)
                 for it in threads:
                     it.join(READ_WITHIN)
                     self.assertFalse(it.is_alive(), "a connection is open")
@@ -291,16 +292,16 @@ class Times(StoppingCase):
         return settled, told
 
     def test_an_open_connection(self):
-        with ClockedKbroker(SETTINGS, connections=None, more=("--for", "1")) as broker:
+        with ClockedKbroker(SETTINGS, connections=None, more=("--for", "3")) as broker:
             with logged_in(broker.address) as client:
                 self.assertTrue(client.ask("Metadata", topics=None)["topics"])
-                settled, told = self.assert_ends(broker, 1)
+                settled, told = self.assert_ends(broker, 3)
                 self.assert_closed(client.socket)
         self.assertEqual((settled.sessions, settled.refusals, told), (1, 0, []))
 
     def test_an_open_connection_where_connections_are_used_up(self):
-        with ClockedKbroker(SETTINGS, connections=1, more=("--for", "1")) as broker, logged_in(broker.address):
-            settled, told = self.assert_ends(broker, 1)
+        with ClockedKbroker(SETTINGS, connections=1, more=("--for", "3")) as broker, logged_in(broker.address):
+            settled, told = self.assert_ends(broker, 3)
         self.assertEqual((settled.sessions, told), (1, []))
 
     def test_an_input_that_stays_open(self):
@@ -309,7 +310,7 @@ class Times(StoppingCase):
             broker.process.stdin.write("sta")
             broker.process.stdin.flush()
             began = time.monotonic()
-            self.assertEqual(broker.process.wait(1 + LATE + STARTED_WITHIN), 0)
+            self.assertEqual(broker.process.wait(30), 0)
             self.assertLess(time.monotonic() - began, 1 + LATE)
             self.assertRegex(broker.process.stdout.read(), LAST)
 
@@ -334,10 +335,12 @@ class Signals(StoppingCase):
             processes = broker.children()
             self.assertTrue(processes)
             broker.process.send_signal(signal.SIGTERM)
+            pipe = f"/proc/{broker.process.pid}/fd/3"
+            wait_until(lambda: not os.path.lexists(pipe), "the first signal isn't caught")
             time.sleep(STARTED_WITHIN)
             self.assertIsNone(broker.process.poll())
             broker.process.send_signal(signal.SIGTERM)
-            status, said, _ = broker.wait(timeout=LATE)
+            status, said, _ = broker.wait(timeout=30)
             self.assertEqual((status, said), (128 + signal.SIGKILL, ""))
             self.assertEqual([it for it in processes if is_running(it)], [])
 

@@ -8,18 +8,19 @@ host has no more connections than it may, and may have another one for each that
 import os
 import resource
 import socket
+import subprocess
 import time
 import unittest
 
-from kbroker_testing.broker import ClockedKbroker
+from kbroker_testing.broker import BrokerProcess, ClockedKbroker
 from kbroker_testing.codes import Code
 from kbroker_testing.protocol import Connection, logged_in
+from tests.server.told import without_waits
 from tests.support import OF_ROOT, connect, topic, wait_until
 
 SETTINGS = OF_ROOT + topic("b")
 STRANGERS = 5_000
 AT_ONCE = 50  # of them
-SECONDS = 15  # for which the endless server takes connections
 GROWTH = 2 << 20  # bytes that it may take while most of the strangers come
 
 FAILED = "kbroker: connections can't be accepted for now: "
@@ -29,6 +30,13 @@ TURNED_AWAY = "kbroker: a connection from 127.0.0.1 was closed at once, since it
 def descriptors(server):
     """How many files the server has open, which has no connection yet."""
     return len(os.listdir(f"/proc/{server.process.pid}/fd"))
+
+
+class Endless(BrokerProcess):
+    """A broker that takes connections without end, until its standard input ends."""
+
+    def words(self, settings):
+        return ["--endless", "--stop-with-input", "--settings", settings.name], subprocess.PIPE
 
 
 class Strangers(unittest.TestCase):
@@ -52,18 +60,17 @@ class Strangers(unittest.TestCase):
         limits = resource.prlimit(process, resource.RLIMIT_NOFILE)
         resource.prlimit(process, resource.RLIMIT_NOFILE, (most, limits[1]))
         with Connection(server.address) as broker:
-            wait_until(server.told, "it isn't told that no connection can be accepted")
+            wait_until(lambda: without_waits(server.told()), "it isn't told that no connection can be accepted")
             time.sleep(0.3)  # thirty more of them fail
             resource.prlimit(process, resource.RLIMIT_NOFILE, limits)
             self.assertEqual(broker.login("root", "toor"), Code.NONE)
             self.assert_served(broker)
-        [line] = server.told()
+        [line] = without_waits(server.told())
         self.assertTrue(line.startswith(FAILED), line)
 
     def test_an_endless_server(self):
         """Strangers come and go, no connection can be accepted for a while, and a client is answered all the same."""
-        more = ("--endless", "--for", str(SECONDS))
-        with ClockedKbroker(SETTINGS, connections=None, more=more) as server:
+        with Endless(SETTINGS) as server:
             most = descriptors(server)
             self.come_and_go(server, STRANGERS // 5)
             before = server.memory()
@@ -72,8 +79,8 @@ class Strangers(unittest.TestCase):
             self.assert_served_without_descriptors(server, most)
             with logged_in(server.address) as broker:
                 self.assert_served(broker)
-            settled, told = server.settled(timeout=SECONDS + 30)
-        self.assertEqual((settled.sessions, settled.refusals, len(told)), (STRANGERS + 2, 0, 1), told)
+            settled, told = server.settled()
+        self.assertEqual((settled.sessions, settled.refusals, len(without_waits(told))), (STRANGERS + 2, 0, 1), told)
         self.assertLess(grown, GROWTH)
 
     def is_let_in(self, server):

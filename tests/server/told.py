@@ -22,6 +22,9 @@ NEARLY_FULL = (
     "kbroker: the trail has {} of at most {} events; once it is full, each session is closed at its next request"
 )
 
+# Lines that only tell of a wait for a worker: where a machine is slow or stands still, they may come at any time.
+OF_WAITS = re.compile(r"kbroker: (?:connections wait for a worker, |a connection from \S+ has waited \d+ s for a worker, ).*")
+
 # That a session's connection is closed, so many seconds after a stop.
 CLOSED = "kbroker: session {} is closed, since it was still open {} s after the stop"
 
@@ -45,6 +48,11 @@ def counted(lines):
         elif found := OF_MORE.fullmatch(line):
             counts[found[3]] += int(found[1])
     return counts
+
+
+def without_waits(lines):
+    """These lines, but for those which tell that connections wait for a worker, or that one has waited."""
+    return [it for it in lines if not OF_WAITS.fullmatch(it)]
 
 
 def text_of(line):

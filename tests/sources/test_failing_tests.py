@@ -24,8 +24,8 @@ from program import PARTS, ROOT, crates_list, crates_of
 
 NAMED = os.environ.get("KBROKER_FAILING_TESTS", "").split()
 AT_ONCE = 3
-SECONDS = 120  # a test's, with the checks of `rt try`; a wait for another session takes at most a tenth of it
-LIMIT = 3600  # a copy's, with its compilation: it gives way to proofs, beside which it may stand still
+SECONDS = 600  # a test's, with the checks of `rt try`: it gives way to proofs, beside which it may stand still
+LIMIT = 7200  # a copy's, with its compilation
 RAN = re.compile(r"^test (\S+) \.\.\. (ok|FAILED)$((?:\n    .*)*)", re.M)
 ASSERTED = re.compile(r"^    src/\S+\.rt:\d+:\d+: the test was killed by signal 6", re.M)
 TESTS = re.compile(r"#\[cfg\(test\)\]\nmod (\w+);\n")
