@@ -3,6 +3,7 @@ pub mod Spending
 pub mod Weaving
 pub mod Weights
 pub mod Further
+pub mod PartByPart
 pub mod Granted
 pub mod Headlines
 pub mod Alikeness

@@ -112,7 +112,7 @@ fn walk_topics<P, A: Drop, W, X: PartApi<P, A, W>>(
         (λ r. r.spent ≡ topics_spent (X.cuts api.now) (X.rule api.now) (policy_rules policy.now) 0
         topics.now) }
 {
-    let mut answers = Items::new(alloc);
+    let mut answers = Items::with_capacity(alloc, topics.len())?;
     let mut refusals = Items::new(alloc);
     let mut spent = Tally::none();
     for topic in topics {
@@ -170,7 +170,7 @@ fn walk_parts<P, A: Drop, W, X: PartApi<P, A, W>>(
         ((X.rule api.now).budget world.old ≤ parts_weight (X.rule api.now) parts.now
         + (X.rule api.now).budget world.new) }
 {
-    let mut answers = Items::new(alloc);
+    let mut answers = Items::with_capacity(alloc, parts.len())?;
     for part in parts {
         let told = answer_part(alloc, api, policy, world, name, part, spent)?;
         answers.push(told.answer)?;
