@@ -8,6 +8,7 @@ connections that ask all the time. Answers that are due are written first. After
 import contextlib
 import os
 import random
+import select
 import signal
 import subprocess
 import tempfile
@@ -32,6 +33,8 @@ DRAWN = 3  # rounds of connections that ask all the time
 PRODUCED = [batch([bytes(size)]) for size in (1, 100, 100_000)]  # their check sums take this test long, so they are made once
 READ_WITHIN = 60  # seconds in which 64 threads of this test read what was sent before the connections were closed
 STARTED_WITHIN = 0.5  # seconds
+HELD_BACK = 0.02  # seconds without an answer; a Fetch is held back for 0.1
+ROUNDS = 20  # Fetches of which one is held back for as long as this test sees it
 FAILED = [of_user(number, "root", WRITE_FAILED) for number in (1, 2)]
 CLOCK_STOPS = "kbroker: the clock stops, so no transaction ends any more: "
 CONTROL_ALONE = ("tick 1", "mark", "marks", "stop", "")
@@ -164,11 +167,21 @@ class Inputs(StoppingCase):
             self.assert_closed(peer)
         self.assertEqual((settled.sessions, told), (1, [of_nobody(0, CUT)]))
 
+    def ask_until_held_back(self, client):
+        """Sends a Fetch that is read and not answered at once. One that is answered is asked again, since this test may stand still."""
+        for _ in range(ROUNDS):
+            client.send("Fetch", max_wait=60_000, topics=of_b(offset=0, max_bytes=1_000))
+            wait_until(lambda: is_read(client.socket), "the request isn't read")
+            answered, _, _ = select.select([client.socket], [], [], HELD_BACK)
+            if not answered:
+                return
+            client.receive("Fetch")
+        self.fail("no Fetch is held back")
+
     def test_a_fetch_that_is_held_back(self):
         """It is answered, and nothing that was asked after the stop."""
         with Stopped(SETTINGS, more=("--librdkafka",)) as broker, logged_in(broker.address) as client:
-            client.send("Fetch", max_wait=60_000, topics=of_b(offset=0, max_bytes=1_000))
-            wait_until(lambda: is_read(client.socket), "the request isn't read")
+            self.ask_until_held_back(client)
             settled, told = self.assert_stops(broker, 0)
             self.assertEqual(partition_of(client.receive("Fetch")[1])["error"], Code.NONE)
             self.assert_closed(client.socket)

@@ -211,14 +211,15 @@ const ADD: &str = "000000260018000000000004ffff000174000000000000000000000000000
 /// The transaction commits.
 const COMMIT: &str = "00000018001a000000000005ffff0001740000000000000000000001";
 
-/// Whether a rest at a desk, of 20 seconds at most, ends within ten, after ann's requests in these frames were answered there.
-fn is_woken_on<L: DeskLedger, R: Wait + time::Clock + Copy>(
+/// How long a rest at a desk lasts, of `most` at most, after ann's requests in these frames were answered there.
+fn rested_on<L: DeskLedger, R: Wait + time::Clock + Copy>(
     rt: R,
     alloc: Global,
     core: Core,
     blank: Blank,
     frames: &[&str],
-) -> Result<bool, Fail>
+    most: Duration,
+) -> Result<Duration, Fail>
     requires settings { core.settings ≡ L.settings }
     requires empty { core.trail ≡ [] }
     requires ledger { (blank.name ≡ L.name) × (blank.parts ≡ L.parts)
@@ -233,26 +234,41 @@ fn is_woken_on<L: DeskLedger, R: Wait + time::Clock + Copy>(
         seat = back;
     }
     let start = Instant::now(&rt)?;
-    desk.rest(&rt, Duration::from_secs(PATIENCE));
-    Ok(start.elapsed(&rt)? < Duration::from_secs(10))
+    desk.rest(&rt, most);
+    Ok(start.elapsed(&rt)?)
 }
 
-/// As `is_woken_on`, at a new desk by `OF_ANN`.
-fn is_woken<R: Wait + time::Clock + Copy>(
+/// As `rested_on`, at a new desk by `OF_ANN`.
+fn rested<R: Wait + time::Clock + Copy>(
     rt: R,
     alloc: Global,
     frames: &[&str],
-) -> Result<bool, Fail> {
+    most: Duration,
+) -> Result<Duration, Fail> {
     let Document { settings, .. } = document_of_text(alloc, OF_ANN.as_bytes())
         .ok()
         .ok_or("settings")?;
     let core = Core::open_checked(alloc, settings)?;
-    is_woken_on::<Brand, R>(rt, alloc, core, Blank::new(MOST_SEATS + 1), frames)
+    rested_on::<Brand, R>(rt, alloc, core, Blank::new(MOST_SEATS + 1), frames, most)
 }
 
 /// The keeper's rest ends at once after a commit, which leaves a marker to be written.
 #[test]
-fn a_rest_ends_once_a_marker_is_owed(rt: HostRuntime) -> Result<(), Fail> {
-    assert!(rt; is_woken(rt, rt.alloc(), &[INIT, ADD, COMMIT])?);
+fn a_rest_ends_once_a_marker_is_pending(rt: HostRuntime) -> Result<(), Fail> {
+    let most = Duration::from_secs(PATIENCE);
+    let passed = rested(rt, rt.alloc(), &[INIT, ADD, COMMIT], most)?;
+    assert!(rt; passed < Duration::from_secs(PATIENCE / 2));
+    Ok(())
+}
+
+/// Where no marker is pending a rest lasts. It may end early, so one of five has to.
+#[test]
+fn a_rest_lasts_where_no_marker_is_pending(rt: HostRuntime) -> Result<(), Fail> {
+    let most = Duration::from_millis(100);
+    let mut lasted = false;
+    for _ in 0..5 {
+        lasted = lasted || most <= rested(rt, rt.alloc(), &[INIT, ADD], most)?;
+    }
+    assert!(rt; lasted);
     Ok(())
 }
