@@ -2,16 +2,22 @@
 
 ghost use Rattle.std.specs.Prelude.{None};
 
-use commands::replay;
+use commands::{check, replay};
+use std::alloc::Global;
 use std::io;
 use std::io::{ErrorKind, Read, Write};
 use std::test::Fail;
 
-const INPUT: &[u8] =
-    b"node_id = 1\nhost = \"h\"\nport = 1\n---\nreq a h 00000000\nreq a h 00000000\nreq a h 00\n";
+const SETTINGS: &[u8] = b"node_id = 1\nhost = \"h\"\nport = 1\n";
 
-/// What `replay` writes for `INPUT`.
-const ANSWER: &[u8] = b"closed\nclosed\nline 3: unreadable\n";
+const INPUT: &[u8] =
+    b"node_id = 1\nhost = \"h\"\nport = 1\n---\nreq a h 00000000\nreq a h 00000000\n";
+
+/// Whether a command is `check`, and not `replay`; its input; and what it writes.
+const COMMANDS: [(bool, &[u8], &[u8]); 2] = [
+    (true, SETTINGS, b"settings ok\n"),
+    (false, INPUT, b"closed\nclosed\n"),
+];
 
 /// A reader of one byte at a time, that fails after so many reads.
 #[derive(Drop)]
@@ -57,35 +63,56 @@ impl Write for Narrow {
     }
 }
 
-/// Where a read of its input fails, `replay` ends with the status 1 and writes nothing; it writes where the read succeeds that
-/// finds the input's end.
+/// How a command ended, and what it wrote.
+#[derive(Drop)]
+struct Ran {
+    status: u8,
+    written: Vec<u8>,
+}
+
+/// Runs `check` or `replay`, of which the first reads `SETTINGS` and the second `INPUT`, with so many reads and writes that don't fail.
+fn run(alloc: Global, is_check: bool, reads: usize, writes: usize) -> Ran {
+    let bytes = if is_check { SETTINGS } else { INPUT };
+    let mut reader = Failing { bytes, reads };
+    let mut writer = Narrow {
+        held: Vec::new(alloc),
+        writes,
+    };
+    let status = if is_check {
+        check(alloc, &mut reader, &mut writer)
+    } else {
+        replay(alloc, &mut reader, &mut writer)
+    };
+    Ran {
+        status,
+        written: writer.held,
+    }
+}
+
+/// Where a read of its input fails, a command ends with the status 1 and writes nothing; it is done, with the status 0, where the
+/// read succeeds that finds the input's end.
 #[test]
 fn failing_reads(rt: HostRuntime) -> Result<(), Fail> {
-    for reads in 0..INPUT.len() + 2 {
-        let mut reader = Failing {
-            bytes: INPUT,
-            reads,
-        };
-        let mut writer = Vec::new(rt.alloc());
-        let status = replay(rt.alloc(), &mut reader, &mut writer);
-        assert_eq!(rt; status, 1);
-        assert_eq!(rt; writer.is_empty(), reads <= INPUT.len());
+    for (is_check, input, answer) in COMMANDS {
+        for reads in 0..input.len() + 2 {
+            let ran = run(rt.alloc(), is_check, reads, answer.len());
+            let is_whole = reads > input.len();
+            assert_eq!(rt; ran.status == 0, is_whole);
+            assert!(rt; ran.written.as_slice() == if is_whole { answer } else { b"" });
+        }
     }
     Ok(())
 }
 
-/// Where a write of its output fails, `replay` ends with the status 1, and the answer's front is written.
+/// Where a write of its output fails, a command ends with the status 1, and the answer's front is written.
 #[test]
 fn failing_writes(rt: HostRuntime) -> Result<(), Fail> {
-    for writes in 0..ANSWER.len() + 1 {
-        let mut reader = INPUT;
-        let mut writer = Narrow {
-            held: Vec::new(rt.alloc()),
-            writes,
-        };
-        let status = replay(rt.alloc(), &mut reader, &mut writer);
-        assert_eq!(rt; status, 1);
-        assert!(rt; writer.held.as_slice() == &ANSWER[..writes]);
+    for (is_check, input, answer) in COMMANDS {
+        for writes in 0..answer.len() + 1 {
+            let ran = run(rt.alloc(), is_check, input.len() + 1, writes);
+            assert_eq!(rt; ran.status == 0, writes == answer.len());
+            assert!(rt; ran.written.as_slice() == &answer[..writes]);
+        }
     }
     Ok(())
 }

@@ -101,6 +101,20 @@ fn a_writer_that_is_gone_is_not_waited_for(rt: HostRuntime) -> Result<(), Fail> 
     Ok(())
 }
 
+/// That no seat is left is written once, however many sessions find none.
+#[test]
+fn that_no_seat_is_left_is_written_once(rt: HostRuntime) -> Result<(), Fail> {
+    let alloc = rt.alloc();
+    let (log, log_writer) = OperatorLog::new(&rt, alloc, Vec::<u8>::new(alloc), false)?;
+    log.unseated();
+    log.unseated();
+    log.end();
+    let written = log_writer.run(&rt);
+    let due = "kbroker: no seat is left for further sessions, since 1048576 have asked\n";
+    assert!(rt; written.as_slice() == due.as_bytes());
+    Ok(())
+}
+
 /// Logs that the sessions of these numbers, of nobody at 10.0.0.5, ended inside a request.
 fn cut<R: Wait + time::Clock>(
     alloc: Global,

@@ -276,3 +276,28 @@ fn one_write_for_each_answer(rt: HostRuntime) -> Result<(), Fail> {
     assert!(rt; end.why == EndReason::Closed && counting.writes == 3);
     Ok(())
 }
+
+/// An answer of up to 65,536 bytes is written in one write; of a longer one what stands before its topics comes first. A Metadata that
+/// names the topic `b` n times is answered in 29 + 36 n bytes: 65,513 for 1,819, and 65,549 for 1,820.
+#[test]
+fn one_write_for_the_longest_whole_answer(rt: HostRuntime) -> Result<(), Fail> {
+    for (topics, writes) in [(1_819u32, 3), (1_820, 4)] {
+        let mut input = bytes_of(rt.alloc(), &[HANDSHAKE, LOGIN])?;
+        input.extend_from_slice(&(14 + 3 * topics).to_be_bytes())?;
+        input.extend_from_slice(b"\0\x03\0\x01\0\0\0\x01\xff\xff")?;
+        input.extend_from_slice(&topics.to_be_bytes())?;
+        for _ in 0..topics {
+            input.extend_from_slice(b"\0\x01b")?;
+        }
+        let mut counting = Counting { writes: 0 };
+        let end = serve(
+            rt,
+            rt.alloc(),
+            input.as_slice(),
+            &mut counting,
+            Limits::default(),
+        )?;
+        assert!(rt; end.why == EndReason::Closed && counting.writes == writes);
+    }
+    Ok(())
+}
