@@ -1,12 +1,12 @@
 #!/usr/bin/env python3
 """The gate, `make test`: `rt ci`, and then the tests of tests/ over the program that it has built.
 
-It proves every crate and its tests from nothing, and runs all that there is to run. `rt ci` gives a proof one processor for as
-long as mutants wait, and so holds up all that stands on it. So the proofs are done first, over copies that have no
-mutants: that of the crate on which most others stand, those of the program's crates, and beside them those of the crates that are
-tests and laws, as soon as what they stand on is proved. Beside them the mutants of the crates that are proved are tried,
-over copies too, the more side by side the fewer proofs run. What all these passed is kept, and `rt ci` over the repository does
-the rest: its word alone counts.
+It proves every crate and its tests, but for what a run on this machine has passed, and runs all that there is to run. `rt ci`
+gives a proof one processor for as long as mutants wait, and so holds up all that stands on it. So the proofs are done first, over
+copies that have no mutants: that of the crate on which most others stand, those of the program's crates, and beside them those of
+the crates that are tests and laws, as soon as what they stand on is proved. Beside them the mutants of the crates that are proved
+are tried, over copies too, the more side by side the fewer proofs run. What all these passed is kept, and `rt ci` over the
+repository does the rest: its word alone counts.
 
 The last line is 'N passed, M failed', with a crate, a mutant and a case of tests/ for one each, and in brackets how many there
 were of each kind. The lines before it tell what failed. What rt said is kept in out/gate.log, and what each crate took, as seen
@@ -26,6 +26,7 @@ import time
 from pathlib import Path
 
 import prove
+from processes import children_of, processes
 from program import NAME, PROGRAM, ROOT, crates_list, crates_of
 
 # What the environment asks of the tests, as fewer frames or another program, is not asked of the gate.
@@ -43,25 +44,9 @@ LEAST_MUTANTS = 2  # of a crate at once, however few processors are free as it b
 PROCESSORS = len(os.sched_getaffinity(0))
 NICE_OF_OTHERS = 5  # the program's proofs go before them
 NICE_OF_SOURCES = 19  # they take what all else leaves
-TICKS = os.sysconf("SC_CLK_TCK")
-PAGE = os.sysconf("SC_PAGE_SIZE")
 TOTALS = re.compile(r"^(\d+) passed, (\d+) failed$", re.M)
 PROVED = re.compile(r"^rt: (\w+) (?:proved$|is kept)", re.M)
 FAULTS = re.compile(r"^(?:rt: FAILED: .+|test \S+ \.\.\. FAILED.*)$", re.M)
-
-
-def processes():
-    """Each process by its number: its parent, when it was started, its processor seconds and its memory."""
-    found = {}
-    for name in filter(str.isdigit, os.listdir("/proc")):
-        try:
-            with open(f"/proc/{name}/stat", encoding="utf-8", errors="replace") as it:
-                fields = it.read().rpartition(")")[2].split()
-        except OSError:
-            continue  # it has ended
-        seconds = (int(fields[11]) + int(fields[12])) / TICKS
-        found[int(name)] = int(fields[1]), int(fields[19]), seconds, int(fields[21]) * PAGE
-    return found
 
 
 def work_of(process):
@@ -94,9 +79,7 @@ class Sampler:
     def look(self):
         """Takes one sample of the processes that are looked at and of those below them."""
         found, held, proofs = processes(), 0, 0
-        below = {}
-        for process, (parent, *_) in found.items():
-            below.setdefault(parent, []).append(process)
+        below = children_of(found)
         stack = [(it, None) for it in [*self.tops]]
         while stack:
             process, work = stack.pop()
