@@ -1,14 +1,15 @@
-"""What people read first of the package does what it says: README's path for whoever has Python alone, its own test, and the
-recipes of docs/TESTING_WITH_KBROKER.md."""
+"""What people read first of the package does what it says: README's path for whoever has Python alone, its own test, the
+recipes of docs/TESTING_WITH_KBROKER.md, and what docs/USING.md shows without a broker."""
 
 import sys
 import unittest
 
 from program import ROOT
-from tests.pages import FIRST, OWN_TEST, Room, assert_prints, assert_steps, blocks_of, serving, steps_of
-from tests.support import wait_until
+from tests.pages import ADDRESS, FIRST, OWN_TEST, Room, assert_prints, assert_steps, blocks_of, serving, steps_of
+from tests.support import PROGRAM, wait_until
 
 RECIPES = 5
+WITHOUT_A_BROKER = 2  # blocks of docs/USING.md
 
 
 class Pages(unittest.TestCase):
@@ -32,3 +33,12 @@ class Pages(unittest.TestCase):
         code = "\n".join(blocks_of((ROOT / "docs/TESTING_WITH_KBROKER.md").read_text(), "python"))
         with Room() as room:
             self.assertRegex(room.run(code, sys.executable)[1], rf"(?s)Ran {RECIPES} tests .*\nOK\n\Z")
+
+    def test_what_needs_no_broker(self):
+        """docs/USING.md: a fault of settings, and the frame of a request by a line of Python."""
+        blocks = [it for it in blocks_of((ROOT / "docs/USING.md").read_text()) if it.startswith("$ ") and ADDRESS not in it]
+        self.assertEqual(len(blocks), WITHOUT_A_BROKER)
+        with Room() as room:
+            (room.path / "kbroker").symlink_to(PROGRAM.resolve())
+            for block in blocks:
+                assert_steps(self, room, steps_of(block))
