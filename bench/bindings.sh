@@ -19,7 +19,7 @@ for names in 100000 1000 1; do
 import resource, subprocess, sys, time
 start = time.monotonic()
 subprocess.run([sys.argv[1], sys.argv[2]], stdin=open(sys.argv[3]), stdout=subprocess.DEVNULL, check=True)
-peak = resource.getrusage(resource.RUSAGE_CHILDREN).ru_maxrss // 1000
+peak = resource.getrusage(resource.RUSAGE_CHILDREN).ru_maxrss * 1024 // 1_000_000
 print(f"{sys.argv[4]} bindings, {sys.argv[5]} names, {sys.argv[2]}: {time.monotonic() - start:.2f} s, {peak} MB")
 ' "$top/crates/kbroker/out/kbroker" "$job" "$text" "$bindings" "$names"
         done

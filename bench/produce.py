@@ -59,7 +59,7 @@ def main():
         offset = int(run.stdout.split()[-1][-40:-24], 16)
         if offset != count - 1:
             sys.exit(f"the last batch stands at {offset}")
-        peak = resource.getrusage(resource.RUSAGE_CHILDREN).ru_maxrss // 1000
+        peak = resource.getrusage(resource.RUSAGE_CHILDREN).ru_maxrss * 1024 // 1_000_000
         growth = f", {seconds / before:.2f} times" if before else ""
         print(f"{count} requests: {seconds:.2f} s{growth}, {peak} MB")
         before = seconds

@@ -8,6 +8,7 @@
 #     bench/serve.sh [PROGRAM]
 set -euo pipefail
 cd "$(dirname "$0")/.."
+tools/program.py
 before=${1:-}
 
 made=$(mktemp -d)
@@ -31,7 +32,7 @@ for topic in b b0 b1 b2 b3; do
     printf '[[topic]]\nname = "%s"\npartitions = 1\n' "$topic" >> "$made/settings"
 done
 
-# Starts one of the brokers, and waits until it says where it listens.
+# Starts one of the brokers, and waits until it says where it listens, or has ended.
 start() {
     case "$1" in
     mock)
@@ -49,7 +50,10 @@ start() {
         started=$!
         ;;
     esac
-    until grep -q "^listening on " "$made/said" 2>/dev/null; do sleep 0.05; done
+    until grep -q "^listening on " "$made/said" 2>/dev/null; do
+        kill -0 "$started" 2>/dev/null || { echo "bench/serve.sh: $1 doesn't start" >&2; exit 1; }
+        sleep 0.05
+    done
     address=$(sed -n 's/^listening on //p' "$made/said")
 }
 
@@ -62,7 +66,7 @@ stop() {
     rm -f "$made/input" "$made/said"
 }
 
-# The best of three runs, each at a broker of its own, in `best`; and in `memory` the peak of the last one's memory, in kB.
+# The best of three runs, each at a broker of its own, in `best`; and in `memory` the peak of the last one's memory, in KiB.
 measure() {
     local broker=$1 who=(root toor) told
     shift
@@ -92,7 +96,7 @@ row() {
         measure "$before" "$@"
         old=$(ratio "$best" "$mock")
     fi
-    echo "| $name | $ours | $mock | $old | $(ratio "$ours" "$mock") | $least | $((kept / 1000)) MB |"
+    echo "| $name | $ours | $mock | $old | $(ratio "$ours" "$mock") | $least | $((kept * 1024 / 1000000)) MB |"
 }
 
 ratio() {

@@ -16,7 +16,7 @@ for users in 25000 50000 100000; do
 import resource, subprocess, sys, time
 start = time.monotonic()
 subprocess.run([sys.argv[1], "replay"], stdin=open(sys.argv[2]), check=True)
-peak = resource.getrusage(resource.RUSAGE_CHILDREN).ru_maxrss // 1000
+peak = resource.getrusage(resource.RUSAGE_CHILDREN).ru_maxrss * 1024 // 1_000_000
 print(f"{sys.argv[3]} users: {time.monotonic() - start:.2f} s, {peak} MB")
 ' "$top/crates/kbroker/out/kbroker" "$text" "$users"
 done

@@ -41,8 +41,6 @@ def acl(name, principal):
     return support.acl(name=name, principal=f"User:{principal}")
 
 
-
-
 def of_producer(name, producer):
     return {"transactional_id": name, "producer": producer, "epoch": 0}
 
@@ -120,20 +118,20 @@ def produce_among_ids(n):
     return head, [produce(PLACE, f"id{n - 1}", n - 1, it) for it in range(WORK)], WORK
 
 
-def fetch_behind_open(n):
+def fetch_after_open(n):
     head = settings() + "---\n" + init("id") + add("id", 0, [0]) + produce(PLACE, "id", 0, 0)
     head += produce() * (n - 1)
     return head, [fetch(PLACE, n - 1, 1, 1000)] * WORK, WORK
 
 
-def fetch_behind_aborted(n):
+def fetch_after_aborted(n):
     head = settings() + "---\n" + init("id")
     for it in range(n):
         head += add("id", 0, [0]) + produce(PLACE, "id", 0, it) + end("id", 0, 0) + "mark\n"
     return head, [fetch(PLACE, 2 * n - 2, 1, 1000)] * WORK, WORK
 
 
-def fetch_offsets_behind_commits(n):
+def fetch_offsets_after_commits(n):
     head = settings() + "---\n" + "".join(commits(range(it, min(it + 1000, n))) for it in range(0, n, 1000))
     return head, [fetch_offsets()] * WORK, WORK
 
@@ -201,9 +199,9 @@ def describe_one_name(n):
 ROWS = [
     ("a Produce among n topics of 100 partitions", produce_among_topics, [10, 100, 250]),
     ("a transactional Produce among n ids", produce_among_ids, [10, 1_000, 25_000]),
-    ("a read_committed Fetch at the end of n batches, after an open transaction", fetch_behind_open, [1_000, 10_000, 25_000]),
-    ("a read_committed Fetch at the end, after n aborted transactions", fetch_behind_aborted, [2_500]),
-    ("an OffsetFetch after n commits", fetch_offsets_behind_commits, [1_000, 10_000, 100_000]),
+    ("a read_committed Fetch at the end of n batches, after an open transaction", fetch_after_open, [1_000, 10_000, 25_000]),
+    ("a read_committed Fetch at the end, after n aborted transactions", fetch_after_aborted, [2_500]),
+    ("an OffsetFetch after n commits", fetch_offsets_after_commits, [1_000, 10_000, 100_000]),
     ("an OffsetCommit that begins one of n groups", begin_groups, [5_000]),
     ("the same, with names that collide by the default hasher", begin_colliding_groups, [5_000]),
     ("one of n entries of a TxnOffsetCommit", stage_at_once, [1_000, 25_000]),
@@ -223,8 +221,9 @@ ROWS = [
 
 
 def run(program, script):
-    """Processor seconds and the peak of memory in bytes, of the best of some runs; or nothing where one takes too long."""
-    best, peak = float("inf"), 0
+    """Processor seconds, of the best of some runs, and the peak of memory in bytes, of one more; or nothing where a run takes too
+    long."""
+    best = float("inf")
     with tempfile.NamedTemporaryFile("w+") as text:
         text.write(script)
         text.flush()
@@ -240,8 +239,8 @@ def run(program, script):
                 return None
             if process.returncode:
                 sys.exit(f"tables: the program ended with {process.returncode}")
-            best, peak = min(best, usage.ru_utime + usage.ru_stime), usage.ru_maxrss * 1024
-    return best, peak
+            best = min(best, usage.ru_utime + usage.ru_stime)
+    return best, support.peak_of(script, program)
 
 
 def measured(program, row, n):

@@ -73,12 +73,12 @@ sys.stderr.write(f"{os.waitstatus_to_exitcode(status)} {usage.ru_maxrss}")
 """
 
 
-def peak_of(script):
-    """The peak of memory, in bytes, of the program that answers a script, of which no answer is looked at."""
+def peak_of(script, program=PROGRAM):
+    """The peak of memory, in bytes, of a program that answers a script, of which no answer is looked at."""
     with tempfile.TemporaryFile("w+") as text:
         text.write(script)
         text.seek(0)
-        words = [sys.executable, "-S", "-c", STARTER, PROGRAM, "replay"]
+        words = [sys.executable, "-S", "-c", STARTER, program, "replay"]
         told = subprocess.run(words, stdin=text, stdout=subprocess.DEVNULL, stderr=subprocess.PIPE, check=True, text=True)
     status, peak = map(int, told.stderr.split())
     if status:

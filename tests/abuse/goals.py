@@ -49,17 +49,16 @@ def waits_beside_refusals(most):
 
 def waits_for_each_megabyte():
     """How long another user waits beside a request for each MB of its frame, of the largest frames, in milliseconds: of those
-    requests that take longer for what they name than the documents tell, or of all if none does."""
-    all_of, untold = {}, {}
+    requests that take longer for what they name than the documents tell. Nothing, if none does."""
+    untold = {}
     for name, (user, before, count, api, fields) in latency.ROWS.items():
         size, _, waited = latency.measure(user, before, api, fields)
-        if size > 64_000:
-            all_of[name] = waited * 1000 / (size / MILLION)
-            if waited * 1000 / (count / 1000) > TOLD:
-                untold[name] = all_of[name]
-    least = untold or {name: each for name, each in all_of.items() if each <= EACH_MEGABYTE}
-    name = max(least, key=least.get)
-    return least[name], name
+        if size > 64_000 and waited * 1000 / (count / 1000) > TOLD:
+            untold[name] = waited * 1000 / (size / MILLION)
+    if not untold:
+        return 0.0, "none"
+    name = max(untold, key=untold.get)
+    return untold[name], name
 
 
 def kept_for_each(api, count, fields):
