@@ -13,6 +13,7 @@ import subprocess
 import sys
 import time
 
+from processes import children_of, processes
 from program import NAME, ROOT, crates_list
 
 SETTINGS = ROOT / "examples/server.toml"
@@ -58,16 +59,9 @@ def is_well(words, folder, **more):
 
 def below(top):
     """The processes below one."""
-    parents = {}
-    for it in filter(str.isdigit, os.listdir("/proc")):
-        try:
-            with open(f"/proc/{it}/stat", encoding="utf-8", errors="replace") as stat:
-                parents.setdefault(int(stat.read().rpartition(")")[2].split()[1]), []).append(int(it))
-        except OSError:
-            continue  # it has ended
-    found, left = [], [top]
+    children, found, left = children_of(processes()), [], [top]
     while left:
-        more = parents.get(left.pop(), [])
+        more = children.get(left.pop(), [])
         found, left = [*found, *more], [*left, *more]
     return found
 

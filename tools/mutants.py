@@ -27,7 +27,7 @@ from prove import NotProved, copy_crates, end_on_signals, hold_alone, prove
 WITHOUT_NAME = "only because a proof file names what the edit took away"
 SETS = ("mutants", "must-fail")
 TRY_MUTANTS = ROOT / "tools/try_mutants.py"
-MEMORY_OF_CRATE = 4e9  # bytes; four crates at a time were seen to take 10.7 GB (docs/BUILD.md)
+MEMORY_OF_CRATE = 4e9  # bytes; four crates at a time were seen to take 10.7 GB
 
 
 def mutants_of(name, sets):

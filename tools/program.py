@@ -60,6 +60,16 @@ def what_lacks():
     return None
 
 
+def tell_unproved():
+    """Tells that a run is of the sources without a proof, and what proves them."""
+    print(
+        "kbroker: this run is not proved, and takes some minutes to compile: "
+        f"`make prove` proves and builds the program, in about {PROVING_TIME}",
+        file=sys.stderr,
+        flush=True,
+    )
+
+
 def main():
     lacks = what_lacks()
     if lacks:

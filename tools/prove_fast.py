@@ -23,7 +23,7 @@ import sys
 import time
 from pathlib import Path
 
-from program import NAME, PROGRAM, ROOT, crates_of
+from program import NAME, PROGRAM, ROOT, crates_of, what_lacks
 from prove import end_on_signals, hold_alone, log_of
 
 FUNCTIONS = re.compile(r"^logic=proved functions=(\d+)", re.M)
@@ -345,11 +345,14 @@ def main():
     names = parser.parse_args().crates or [NAME]
     end_on_signals()
     hold_alone()
+    began = time.time_ns()
     progress = prove(load_rt(), names)
     progress.tell([], now=True)
     progress.end_line()
     if NAME in names:
-        PROGRAM.touch()  # newer than each source, as its stamp says
+        os.utime(PROGRAM, ns=(began, began))  # as old as the reading of its sources
+        if what_lacks():
+            sys.exit("kbroker: a source changed meanwhile: run this again")
         print(f"kbroker: proved and built: {PROGRAM.relative_to(ROOT)}", file=sys.stderr)
 
 

@@ -9,7 +9,7 @@ import signal
 import subprocess
 import sys
 
-from program import NAME, PROGRAM, PROVING_TIME, ROOT, what_lacks
+from program import NAME, PROGRAM, ROOT, tell_unproved, what_lacks
 
 EXAMPLE = ROOT / "examples/metadata.txt"
 # rt's own lines about a run that ended well
@@ -26,12 +26,7 @@ def run_proved():
 
 def run_unproved():
     """The status of the same sources under `rt try`, whose own lines are shown where the program did not end well."""
-    print(
-        "kbroker: this run is not proved, and takes some minutes to compile: "
-        f"`make prove` proves and builds the program, in about {PROVING_TIME}",
-        file=sys.stderr,
-        flush=True,
-    )
+    tell_unproved()
     with EXAMPLE.open("rb") as given:
         run = subprocess.run(
             ["rt", "try", "--", "replay"],

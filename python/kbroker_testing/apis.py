@@ -1,4 +1,4 @@
-"""The apis that are served, each in its one version: what is asked and answered, as the protocol's guide has it."""
+"""The apis that are served, in each version that is: what is asked and answered, as the protocol's guide has it."""
 
 import re
 

@@ -369,7 +369,7 @@ class Kbroker(BrokerProcess):
         return self.tick(self.state().moment + milliseconds)
 
     def mark(self):
-        """Writes the first pending marker, and gives it; None where none is pending."""
+        """Writes the oldest pending marker, and gives it; None where none is pending."""
         return marker_of(self.say("mark"))
 
     def marks(self):

@@ -1,4 +1,4 @@
-"""A client of the broker in the protocol of Kafka, as its guide has it: every api that is served, in its one version.
+"""A client of the broker in the protocol of Kafka, as its guide has it: every api that is served, in each version that is.
 
 As a program it asks one thing and prints the answer as JSON:
 
