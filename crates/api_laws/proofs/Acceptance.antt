@@ -203,7 +203,7 @@ later_next log b low latest on =
           absurd (on.new late.earlier late.later old late.own late.few (same_is old.header.base_sequence b.header.base_sequence both.0) (same_is (last_of old) (last_of b) both.1))
 
 next_judged : (log : LogValue) (b : BatchData) → IsNextOf log b → judged_by_log log b ≡ Next
-next_judged log b (inl unknown_group_error) = ap (λ (z : ℤ). cond (not (int_lt z (pos 0))) (judgment_in (sequence log b.header.producer_id) b (repeat log b)) Next) unknown_group_error
+next_judged log b (inl no_producer) = ap (λ (z : ℤ). cond (not (int_lt z (pos 0))) (judgment_in (sequence log b.header.producer_id) b (repeat log b)) Next) no_producer
 next_judged log b (inr how) = by_sign (int_lt (id_of b) (pos 0)) refl where
   by_kind : pos 0 ≤ℤ id_of b → IsFirst log b ⊎ GoesOn log b → judged_by_log log b ≡ Next
   by_kind low (inl first) = first_next log b low how.0 first

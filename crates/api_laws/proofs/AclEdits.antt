@@ -1,5 +1,5 @@
 -- What the edits of the book come to, and what the answers about it depend on.
-use Rattle.std.proofs.Common.{◌≡◌, Bool, true, false, cond, not, is_some, List, [], ◌∷◌, ◌++◌, filter, Option, Some, None, IfSome, refl, sym, ap, subst, ◌∙◌}
+use Rattle.std.proofs.Common.{◌≡◌, inl, inr, Bool, true, false, cond, not, is_some, List, [], ◌∷◌, ◌++◌, append-nil, append_assoc, filter, Option, Some, None, IfSome, refl, sym, ap, subst, ◌∙◌}
 use Rattle.std.specs.List.{AllByRecursion}
 use Rattle.wire_types.specs.declared.error_code.ErrorCode.{ErrorCode}
 use Rattle.msg_acl.specs.declared.entries.BindingEntry.{BindingEntry}
@@ -22,7 +22,7 @@ use Rattle.broker_world.specs.Whole.{Served, whole_outcome_by, whole_outcome}
 use Rattle.acl_handlers.specs.DescribeAcls.{describe_acls_questions, describe_acls_reply}
 use Rattle.acl_handlers.specs.CreateAcls.{alter_questions, book_with, book_created}
 use Rattle.acl_handlers.specs.DeleteAcls.{book_without, book_deleted, deletion_results, delete_acls_reply}
-use Rattle.api_laws.specs.AclLaws.{CreatesEach, DeletesEach, IsRefusedWhole, RefusedEditNothing, SameEdit, AclsDependOnTheBook, AclsKeepTopics}
+use Rattle.api_laws.specs.AclLaws.{IsOfEntry, AreCreated, CreatesEach, StandsIn, AreDeleted, DeletesEach, IsRefusedWhole, RefusedEditNothing, SameEdit, AclsDependOnTheBook, AclsKeepTopics}
 use Rattle.acl_handlers.proofs.BookBounds.{whole_topics}
 
 -- ---- bindings that stand in the book stay there
@@ -77,9 +77,40 @@ book_granted : (o : Option Refusal) (w : World) (refused : ErrorCode → Reply) 
 book_granted None w refused served is = refl
 book_granted (Some r) w refused served is = absurd (let clash : Some r ≡ None = is in cc)
 
+-- ---- what is new
+
+-- the book holds what it held, and then bindings of entries
+record HasMore (entries : List BindingEntry) (old new : List Numbered) : Type 0 where
+  more : List Numbered
+  kept : new ≡ old ++ more
+  sent : AllByRecursion (λ (n : Numbered). IsOfEntry entries n.binding) more
+
+of_later : (e : BindingEntry) (es : List BindingEntry) (more : List Numbered) → AllByRecursion (λ (n : Numbered). IsOfEntry es n.binding) more → AllByRecursion (λ (n : Numbered). IsOfEntry (e ∷ es) n.binding) more
+of_later e es [] all = tt
+of_later e es (n ∷ more) all = (inr all.0, of_later e es more all.1)
+
+more_by_one : (book : BookValue) (e : BindingEntry) (es : List BindingEntry) (b : Binding) (t : Bool) → binding_of e ≡ Some b → HasMore es (cond t book (with_new_binding book b)).entries (book_created (cond t book (with_new_binding book b)) es).entries
+    → HasMore (e ∷ es) book.entries (book_created (cond t book (with_new_binding book b)) es).entries
+more_by_one book e es b true is rest = record { more = rest.more; kept = rest.kept; sent = of_later e es rest.more rest.sent }
+more_by_one book e es b false is rest =
+    let one : Numbered = record { number = book.next; binding = b } in
+    record { more = one ∷ rest.more; kept = rest.kept ∙ append_assoc book.entries (one ∷ []) rest.more; sent = (inl is, of_later e es rest.more rest.sent) }
+
+created_more : (book : BookValue) (es : List BindingEntry) → HasMore es book.entries (book_created book es).entries
+created_more book [] = record { more = []; kept = sym (append-nil book.entries); sent = tt }
+created_more book (e ∷ es) = by_binding (binding_of e) refl (created_more (book_with book (binding_of e)) es) where
+  by_binding : (o : Option Binding) → binding_of e ≡ o → HasMore es (book_with book o).entries (book_created (book_with book o) es).entries → HasMore (e ∷ es) book.entries (book_created (book_with book o) es).entries
+  by_binding None is rest = record { more = rest.more; kept = rest.kept; sent = of_later e es rest.more rest.sent }
+  by_binding (Some b) is rest = more_by_one book e es b (is_some (number_of book.entries b)) is rest
+
+created : (book : BookValue) (es : List BindingEntry) → AreCreated es book.entries (book_created book es).entries
+created book es =
+    let after = created_more book es in
+    record { each = created_stand book es; more = after.more; kept = after.kept; sent = after.sent }
+
 pub creates_each : CreatesEach
 creates_each w caller r granted =
-    subst (λ (book : BookValue). AllStand book r.creations) (book_granted (part_refusal (rules_of w) (alter_questions caller)) w _ _ granted) (created_stand w.book r.creations)
+    subst (λ (book : BookValue). AreCreated r.creations w.book.entries book.entries) (book_granted (part_refusal (rules_of w) (alter_questions caller)) w _ _ granted) (created w.book r.creations)
 
 -- ---- bindings that a filter picks are gone
 
@@ -121,9 +152,45 @@ deleted_picked book (e ∷ es) = (by_filter (filter_of e), deleted_picked (book_
   by_filter None = tt
   by_filter (Some f) = deleted_none (book_without book (Some f)) es f (none_removed book.entries f)
 
+-- ---- bindings that no filter picks stay
+
+filter_keeps : (p : Numbered → Bool) (es : List Numbered) (n : Numbered) → StandsIn es n → p n ≡ true → StandsIn (filter p es) n
+filter_keeps p [] n there holds = absurd there
+filter_keeps p (e ∷ es) n there holds = by_kept (p e) refl there (λ later. filter_keeps p es n later holds) where
+  by_kept : (k : Bool) → p e ≡ k → StandsIn (e ∷ es) n → (StandsIn es n → StandsIn (filter p es) n) → StandsIn (cond k (e ∷ filter p es) (filter p es)) n
+  by_kept true is (inl same) rest = inl same
+  by_kept true is (inr later) rest = inr (rest later)
+  by_kept false is (inl same) rest = absurd (let clash : true ≡ false = sym holds ∙ ap p (sym same) ∙ is in cc)
+  by_kept false is (inr later) rest = rest later
+
+filter_alone : (p : Numbered → Bool) (es : List Numbered) (n : Numbered) → StandsIn (filter p es) n → StandsIn es n
+filter_alone p [] n there = there
+filter_alone p (e ∷ es) n there = by_kept (p e) there (λ later. filter_alone p es n later) where
+  by_kept : (k : Bool) → StandsIn (cond k (e ∷ filter p es) (filter p es)) n → (StandsIn (filter p es) n → StandsIn es n) → StandsIn (e ∷ es) n
+  by_kept true (inl same) rest = inl same
+  by_kept true (inr later) rest = inr (rest later)
+  by_kept false later rest = inr (rest later)
+
+deleted_kept : (book : BookValue) (es : List FilterEntry) (n : Numbered) → StandsIn book.entries n → AllByRecursion (λ e. IfSome (filter_of e) (λ f. matches f n.binding ≡ false)) es → StandsIn (book_deleted book es).entries n
+deleted_kept book [] n there none = there
+deleted_kept book (e ∷ es) n there none = deleted_kept (book_without book (filter_of e)) es n (by_filter (filter_of e) none.0) none.1 where
+  by_filter : (o : Option Filter) → IfSome o (λ f. matches f n.binding ≡ false) → StandsIn (book_without book o).entries n
+  by_filter None missed = there
+  by_filter (Some f) missed = filter_keeps (is_not_matched f) book.entries n there (ap not missed)
+
+deleted_alone : (book : BookValue) (es : List FilterEntry) (n : Numbered) → StandsIn (book_deleted book es).entries n → StandsIn book.entries n
+deleted_alone book [] n there = there
+deleted_alone book (e ∷ es) n there = by_filter (filter_of e) (deleted_alone (book_without book (filter_of e)) es n there) where
+  by_filter : (o : Option Filter) → StandsIn (book_without book o).entries n → StandsIn book.entries n
+  by_filter None stands = stands
+  by_filter (Some f) stands = filter_alone (is_not_matched f) book.entries n stands
+
+deleted : (book : BookValue) (es : List FilterEntry) → AreDeleted es book.entries (book_deleted book es).entries
+deleted book es = record { each = deleted_picked book es; kept = λ n there none. deleted_kept book es n there none; alone = λ n there. deleted_alone book es n there }
+
 pub deletes_each : DeletesEach
 deletes_each w caller r granted =
-    subst (λ (book : BookValue). NonePicked book r.filters) (book_granted (part_refusal (rules_of w) (alter_questions caller)) w _ _ granted) (deleted_picked w.book r.filters)
+    subst (λ (book : BookValue). AreDeleted r.filters w.book.entries book.entries) (book_granted (part_refusal (rules_of w) (alter_questions caller)) w _ _ granted) (deleted w.book r.filters)
 
 -- ---- a request that is one part
 

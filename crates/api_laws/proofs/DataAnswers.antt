@@ -7,6 +7,8 @@ use Rattle.std.specs.Option.{option_map, option_and_then}
 use Rattle.wire_types.specs.declared.error_code.ErrorCode.{ErrorCode}
 use Rattle.wire_types.specs.declared.error_code.ErrorCode.TheVariants as codes
 use Rattle.wire_types.specs.ErrorCode.{number_of}
+use Rattle.msg_data.specs.declared.isolation.Isolation.{Isolation}
+use Rattle.msg_data.specs.declared.isolation.Isolation.TheVariants.{ReadUncommitted, ReadCommitted}
 use Rattle.msg_data.specs.declared.list_offsets.WantedOffset.{WantedOffset}
 use Rattle.record_batch.specs.declared.header.BatchHeader.{BatchHeader}
 use Rattle.record_batch.specs.declared.fault.BatchFault.{BatchFault}
@@ -17,7 +19,7 @@ use Rattle.record_batch.specs.Fault.{code_of}
 use Rattle.producer_state.specs.declared.judgment.Judgment.{Judgment}
 use Rattle.producer_state.specs.declared.judgment.Judgment.TheVariants.{Next, Repeat, Refused}
 use Rattle.producer_state.specs.Sequences.{is_of_producer, first_judgment, judgment_by_repeat, Sequence, sequence, repeat, judgment_in, judgment_of as judged_by_log}
-use Rattle.partition_log.specs.Log.{at_end}
+use Rattle.partition_log.specs.Log.{end_of, at_end, last_stable_offset}
 use Rattle.partition_log.specs.Fetch.{limit_of}
 use Rattle.msg_data.specs.declared.produce.ProducedRecords.{ProducedRecords}
 use Rattle.broker_world.specs.World.{TopicValue, LogValue, find_topic}
@@ -32,9 +34,9 @@ use Rattle.data_handlers.specs.Judged.{partition_at, id_and_epoch_of, held_code,
 use Rattle.broker_world.specs.Codes.{code_unless_none}
 use Rattle.data_handlers.specs.BudgetLaws.{IsGoodBatch, judged_batch}
 use Rattle.data_handlers.specs.Produce.{produced_to, produce_answer_by, produce_answer}
-use Rattle.data_handlers.specs.ListOffsets.{listed_offset_by, listed_at, listed_error}
+use Rattle.data_handlers.specs.ListOffsets.{listed_offset_by, listed_offset, listed_at, listed_error}
 use Rattle.api_laws.proofs.DataGrants.{find_same}
-use Rattle.api_laws.specs.DataLaws.{IsAppended, IsRepeated, IsAgain, IsUnchanged, ProducesAsAnswered, IsUnlisted, ListsEnds}
+use Rattle.api_laws.specs.DataLaws.{IsAppended, IsRepeated, IsAgain, IsUnchanged, ProducesAsAnswered, IsUnlisted, IsListed, ListsEnds}
 
 -- ---- ListOffsets
 
@@ -46,14 +48,25 @@ unlisted_partition : (p : WantedOffset) → IsUnlisted 3 p (listed_error codes.U
 unfolding number_of
 unlisted_partition p = record { index = refl; error = refl; timestamp = refl; offset = refl }
 
+listed : (offset : ℤ) (p : WantedOffset) → IsListed offset p (listed_at offset p)
+unfolding number_of
+listed offset p = record { index = refl; error = refl; timestamp = refl; at = refl }
+
+-- what is answered for this timestamp
+timed : (level : Isolation) (topics : List TopicValue) (name : List ℕ) (p : WantedOffset) (log : LogValue) (time : ℤ) → log_at topics name p.index ≡ Some log → p.timestamp ≡ time
+    → listed_offset level topics name p ≡ cond (int_eq time (negsuc 0)) (listed_at (limit_of level log) p) (cond (int_eq time (negsuc 1)) (listed_at (pos 0) p) (listed_error codes.InvalidRequest p))
+timed level topics name p log time there is =
+    ap (listed_offset_by level p) there ∙ ap (λ (z : ℤ). cond (int_eq z (negsuc 0)) (listed_at (limit_of level log) p) (cond (int_eq z (negsuc 1)) (listed_at (pos 0) p) (listed_error codes.InvalidRequest p))) is
+
 pub lists_ends : ListsEnds
 lists_ends = record {
   other = λ level topics name p log there last first. subst (IsUnlisted 42 p)
       (sym (ap (listed_offset_by level p) there ∙ ap (λ (t : Bool). cond t (listed_at (limit_of level log) p) (cond (int_eq p.timestamp (negsuc 1)) (listed_at (pos 0) p) (listed_error codes.InvalidRequest p))) last ∙ ap (λ (t : Bool). cond t (listed_at (pos 0) p) (listed_error codes.InvalidRequest p)) first))
       (unlisted_time p);
   missing = λ level topics name p there. subst (IsUnlisted 3 p) (sym (ap (listed_offset_by level p) there)) (unlisted_partition p);
-  end = λ level topics name p log there minus. ap (listed_offset_by level p) there ∙ ap (λ (z : ℤ). cond (int_eq z (negsuc 0)) (listed_at (limit_of level log) p) (cond (int_eq z (negsuc 1)) (listed_at (pos 0) p) (listed_error codes.InvalidRequest p))) minus;
-  start = λ level topics name p log there minus. ap (listed_offset_by level p) there ∙ ap (λ (z : ℤ). cond (int_eq z (negsuc 0)) (listed_at (limit_of level log) p) (cond (int_eq z (negsuc 1)) (listed_at (pos 0) p) (listed_error codes.InvalidRequest p))) minus;
+  uncommitted = λ topics name p log there minus. subst (IsListed (end_of log) p) (sym (timed ReadUncommitted topics name p log (negsuc 0) there minus)) (listed (end_of log) p);
+  committed = λ topics name p log there minus. subst (IsListed (last_stable_offset log) p) (sym (timed ReadCommitted topics name p log (negsuc 0) there minus)) (listed (last_stable_offset log) p);
+  start = λ level topics name p log there minus. subst (IsListed (pos 0) p) (sym (timed level topics name p log (negsuc 1) there minus)) (listed (pos 0) p);
 }
 
 -- ---- Produce: the log that was appended to

@@ -114,14 +114,14 @@ run_goes w budget (b ∷ rest) (inr (fresh, one)) = by_test (nat_le (total_bytes
 
 -- ---- a part
 
-small_by : (w : World) (name : List ℕ) (budget : FetchBudget) (p : FetchPartition) (log : LogValue) (answer : FetchedRecords) (next : FetchBudget) (f : IsFetched log budget p answer next) → log_at w.topics name p.index ≡ Some log
+small_by : {level : Isolation} (w : World) (name : List ℕ) (budget : FetchBudget) (p : FetchPartition) (log : LogValue) (answer : FetchedRecords) (next : FetchBudget) (f : IsFetched level log budget p answer next) → log_at w.topics name p.index ≡ Some log
     → (total_bytes f.batches ≤ budget_for budget p) ⊎ ((budget.given ≡ false) × IsOneBatch w (batch_bytes f.batches))
 small_by w name budget p log answer next f there = by_size f.served.small where
   by_size : (total_bytes f.batches ≤ budget_for budget p) ⊎ ((budget.given ≡ false) × (length f.batches ≡ 1)) → (total_bytes f.batches ≤ budget_for budget p) ⊎ ((budget.given ≡ false) × IsOneBatch w (batch_bytes f.batches))
   by_size (inl small) = inl small
   by_size (inr (fresh, one)) = inr (fresh, only_one w name p.index log f.served.before f.batches f.served.after there f.served.in_order one)
 
-fetched_goes : (w : World) (name : List ℕ) (budget : FetchBudget) (p : FetchPartition) (log : LogValue) (answer : FetchedRecords) (next : FetchBudget) → IsFetched log budget p answer next → log_at w.topics name p.index ≡ Some log → Goes w budget next answer.records
+fetched_goes : {level : Isolation} (w : World) (name : List ℕ) (budget : FetchBudget) (p : FetchPartition) (log : LogValue) (answer : FetchedRecords) (next : FetchBudget) → IsFetched level log budget p answer next → log_at w.topics name p.index ≡ Some log → Goes w budget next answer.records
 fetched_goes w name budget p log answer next f there =
     let small = by_size (small_by w name budget p log answer next f there) in
     subst (λ (r : FetchBudget). Goes w budget r answer.records) (sym f.left) (subst (Goes w budget (budget_after_batches budget f.batches)) (sym f.records) (run_goes w budget f.batches small)) where
@@ -129,7 +129,7 @@ fetched_goes w name budget p log answer next f there =
       by_size (inl small) = inl (min_right (non_negative p.max_bytes) budget.left (total_bytes f.batches) small)
       by_size (inr one) = inr one
 
-fetched_within : (w : World) (name : List ℕ) (budget : FetchBudget) (p : FetchPartition) (log : LogValue) (answer : FetchedRecords) (next : FetchBudget) → IsFetched log budget p answer next → log_at w.topics name p.index ≡ Some log → IsWithin w p.max_bytes answer.records
+fetched_within : {level : Isolation} (w : World) (name : List ℕ) (budget : FetchBudget) (p : FetchPartition) (log : LogValue) (answer : FetchedRecords) (next : FetchBudget) → IsFetched level log budget p answer next → log_at w.topics name p.index ≡ Some log → IsWithin w p.max_bytes answer.records
 fetched_within w name budget p log answer next f there = subst (IsWithin w p.max_bytes) (sym f.records) (by_size (small_by w name budget p log answer next f there)) where
   by_size : (total_bytes f.batches ≤ budget_for budget p) ⊎ ((budget.given ≡ false) × IsOneBatch w (batch_bytes f.batches)) → IsWithin w p.max_bytes (batch_bytes f.batches)
   by_size (inl small) = inl (omega (arith, min_left (non_negative p.max_bytes) budget.left (total_bytes f.batches) small, bytes_long f.batches))

@@ -21,7 +21,7 @@ use Rattle.walk.specs.Weave.{weave}
 use Rattle.msg_data.specs.declared.metadata.TopicInfo.{TopicInfo}
 use Rattle.data_handlers.specs.Metadata.{topic_error, plain_topic, plain_topics, describable, refused_topics, metadata_topics, answer_by, topic_answer}
 use Rattle.broker_world.specs.Questions.{topic_refusal}
-use Rattle.api_laws.specs.Headline.{AnsweredBy, AnswersEachTopic, RefusesEachTopic, is_yes, may_describe, NullTellsDescribable}
+use Rattle.api_laws.specs.Headline.{AnsweredBy, AnswersEachTopic, refusals_of_one, RefusesEachTopic, is_yes, may_describe, NullTellsDescribable}
 
 -- the woven answers are the answers one by one
 pub one_by_one : (w : World) (caller : Caller) (names : List (List ℕ)) → metadata_topics w caller (Some names) ≡ map (topic_answer w caller) names
@@ -63,9 +63,14 @@ in_order rules caller (name ∷ names) more = by_refusal (topic_refusal rules ca
   by_refusal None rest = rest
   by_refusal (Some x) rest = ap (λ l. x ∷ l) rest
 
+alone_kept : (r : Option Refusal) → cons_option r [] ≡ refusals_of_one r
+alone_kept None = refl
+alone_kept (Some r) = refl
+
 pub refuses_each_topic : RefusesEachTopic
 refuses_each_topic = record {
   verdict = λ rules caller name. by_the_verdict (verdict rules.book rules.supers (question_of caller operations.Describe kinds.Topic name)) (question_of caller operations.Describe kinds.Topic name);
+  one = λ rules caller name. alone_kept (topic_refusal rules caller name);
   order = in_order;
   listed = λ rules caller. refl;
 }

@@ -7,6 +7,7 @@ use Rattle.partition_log.specs.Log.{end_of, last_stable_offset}
 use Rattle.partition_log.specs.Fetch.{batches_below, batches_from, fitting_batches, at_least_one, served_batches}
 use Rattle.partition_log.proofs.Longest.{fitting_longest}
 use Rattle.api_laws.specs.Longest.{IsLongest, ServesWhatFits}
+use Rattle.api_laws.proofs.DataFetches.{fitting_first, fitting_small, least_first, least_small}
 
 -- one that is forced makes what fits no shorter
 as_long : (forced : Bool) (candidates run : List BatchData) → length run ≤ length (at_least_one forced candidates run)
@@ -25,8 +26,13 @@ nothing forced budget b rest h = by_size (nat_le (length b.bytes) budget) refl h
 
 longest : (log : List BatchData) (offset limit : ℤ) (budget : ℕ) (forced : Bool) → IsLongest log offset limit budget forced (served_batches log offset limit budget forced)
 longest log offset limit budget forced =
-    let candidates = batches_below limit (batches_from offset log) in
+    let candidates : List BatchData = batches_below limit (batches_from offset log) in
+    let run : List BatchData = fitting_batches budget candidates in
+    let parts = least_first forced candidates run (fitting_first budget candidates) in
     record {
+      rest = parts.0;
+      first = parts.1;
+      fits = least_small forced budget candidates run (fitting_small budget candidates);
       most = λ longer rest parts fits. omega (arith, (fitting_longest budget candidates).1 longer rest parts fits, as_long forced candidates (fitting_batches budget candidates));
       none = λ empty b rest are. nothing forced budget b rest (ap (λ (l : List BatchData). at_least_one forced l (fitting_batches budget l)) (sym are) ∙ empty);
     }

@@ -257,7 +257,7 @@ judged_proper most c id acks name p b is =
 -- ---- and next, or nothing is changed
 
 next_by : (c : CoordinatorValue) (id : Option (List ℕ)) (name : List ℕ) (index : ℤ) (log : LogValue) (b : BatchData) → Writer c id name index b.header → judged_by_log log b ≡ Next → IsNextOf log b
-next_by c id name index log b (inl unknown_group_error) next = inl unknown_group_error.id
+next_by c id name index log b (inl none) next = inl none.id
 next_by c id name index log b (inr (inl free)) next = inr (only_next log b (from_number free.id b.header.producer_id free.is_id) next)
 next_by c id name index log b (inr (inr open_one)) next = inr (only_next log b open_one.id next)
 

@@ -274,8 +274,8 @@ module _ (w : World) (caller : Caller) (id : List ℕ) (r : Refusal) (refused : 
   refused_or_empty [] = inr refl
   refused_or_empty (t ∷ ts) = by_parts t.name t.partitions (refused_or_empty ts) where
     by_parts : (name : List ℕ) (indices : List ℤ) → (has_any (refusals (cut_rule caller id w.topics) (rules_of w) ts) ≡ true) ⊎ (partitions_of ts ≡ []) → (has_any (parts_refused (cut_rule caller id w.topics) (rules_of w) name indices ++ refusals (cut_rule caller id w.topics) (rules_of w) ts) ≡ true) ⊎ (partitions_in name indices ++ partitions_of ts ≡ [])
-    by_parts name [] behind = behind
-    by_parts name (index ∷ indices) behind =
+    by_parts name [] later = later
+    by_parts name (index ∷ indices) later =
         inl (ap (λ (o : Option Refusal). has_any (cons_option o (parts_refused (cut_rule caller id w.topics) (rules_of w) name indices) ++ refusals (cut_rule caller id w.topics) (rules_of w) ts)) (part_is_refused name))
 
 refused_add : (w : World) (caller : Caller) (q : AddPartitionsToTxnRequest) (r : Refusal) → part_refusal (rules_of w) (id_question caller q.transactional_id ∷ []) ≡ Some r → (add_partitions_outcome w caller q).world ≡ w
@@ -400,8 +400,8 @@ module _ (v w : World) (caller : Caller) (id : List ℕ) where
   same_or_empty (t ∷ ts) same none = by_parts t.name t.partitions (same_or_empty ts same.1) same.0 none where
     by_parts : (name : List ℕ) (indices : List ℤ) → (has_any (refusals (cut_rule caller id w.topics) (rules_of w) ts) ≡ false → (partitions_of ts ≡ []) ⊎ (id_record v.coordinator.transactions id ≡ id_record w.coordinator.transactions id)) → AllParts SamePart name indices → has_any (parts_refused (cut_rule caller id w.topics) (rules_of w) name indices ++ refusals (cut_rule caller id w.topics) (rules_of w) ts) ≡ false
         → (partitions_in name indices ++ partitions_of ts ≡ []) ⊎ (id_record v.coordinator.transactions id ≡ id_record w.coordinator.transactions id)
-    by_parts name [] behind here none = behind none
-    by_parts name (index ∷ indices) behind here none =
+    by_parts name [] later here none = later none
+    by_parts name (index ∷ indices) later here none =
         let o = part_refusal (rules_of w) (add_questions caller id name) in
         let rest = parts_refused (cut_rule caller id w.topics) (rules_of w) name indices in
         inr (part_id name index here.0 (no_refusal name index o rest refl (none_first (cons_option o rest) (refusals (cut_rule caller id w.topics) (rules_of w) ts) none)))

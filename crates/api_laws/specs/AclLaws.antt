@@ -1,13 +1,17 @@
 -- What the edits of the book come to, in the subject's words, and what the three answers depend on.
-use Rattle.std.specs.Prelude.{◌≡◌, true, is_some, [], ◌∷◌, Some, None, IfSome}
+use Rattle.std.specs.Prelude.{◌≡◌, ◌⊎◌, true, false, is_some, List, [], ◌∷◌, ◌++◌, Some, None, IfSome}
 use Rattle.std.specs.List.{AllByRecursion}
+use Rattle.msg_acl.specs.declared.entries.BindingEntry.{BindingEntry}
+use Rattle.msg_acl.specs.declared.entries.FilterEntry.{FilterEntry}
 use Rattle.msg_acl.specs.declared.create_acls.CreateAclsRequest.{CreateAclsRequest}
 use Rattle.msg_acl.specs.declared.delete_acls.DeleteAclsRequest.{DeleteAclsRequest}
 use Rattle.msg_acl.specs.declared.describe_acls.DescribeAclsRequest.{DescribeAclsRequest}
+use Rattle.acl_binding.specs.declared.binding.Binding.{Binding}
+use Rattle.acl_binding.specs.declared.binding.Numbered.{Numbered}
 use Rattle.acl_binding.specs.declared.question.Caller.{Caller}
 use Rattle.acl_binding.specs.Entries.{binding_of, filter_of}
 use Rattle.acl_binding.specs.Book.{number_of}
-use Rattle.acl_binding.specs.Filter.{matching_bindings}
+use Rattle.acl_binding.specs.Filter.{matches, matching_bindings}
 use Rattle.authorizer.specs.declared.answer.Refusal.{Refusal}
 use Rattle.authorizer.specs.Asking.{part_refusal}
 use Rattle.broker_world.specs.World.{World, rules_of}
@@ -18,15 +22,39 @@ use Rattle.acl_handlers.specs.DescribeAcls.{describe_acls_outcome}
 use Rattle.api_laws.specs.Tenants.{SameBase}
 use Rattle.api_laws.specs.DataTenants.{SameAnswer}
 
--- after a CreateAcls that is granted each entry that is a binding stands in the book, whatever the other entries are
+-- an entry is this binding
+abbrev pub IsOfEntry : List BindingEntry → Binding → Type 0
+IsOfEntry [] b = ⊥
+IsOfEntry (e ∷ es) b = (binding_of e ≡ Some b) ⊎ IsOfEntry es b
+
+-- each entry that is a binding stands in the book, whatever the other entries are; all that stood there stands before what is
+-- new, and each that is new is an entry
+pub record AreCreated (entries : List BindingEntry) (old new : List Numbered) : Type 0 where
+  pub each : AllByRecursion (λ e. IfSome (binding_of e) (λ b. is_some (number_of new b) ≡ true)) entries
+  pub more : List Numbered
+  pub kept : new ≡ old ++ more
+  pub sent : AllByRecursion (λ (n : Numbered). IsOfEntry entries n.binding) more
+
+-- after a CreateAcls that is granted
 abbrev pub CreatesEach : Type 0
 CreatesEach = (w : World) (caller : Caller) (r : CreateAclsRequest) → part_refusal (rules_of w) (alter_questions caller) ≡ None
-    → AllByRecursion (λ e. IfSome (binding_of e) (λ b. is_some (number_of (create_acls_outcome w caller r).world.book.entries b) ≡ true)) r.creations
+    → AreCreated r.creations w.book.entries (create_acls_outcome w caller r).world.book.entries
 
--- after a DeleteAcls that is granted none of its filters picks anything any more
+-- a binding stands in the book with its number
+abbrev pub StandsIn : List Numbered → Numbered → Type 0
+StandsIn [] n = ⊥
+StandsIn (x ∷ xs) n = (x ≡ n) ⊎ StandsIn xs n
+
+-- no filter picks anything any more; a binding that none picks stands there as before, and nothing else does
+pub record AreDeleted (filters : List FilterEntry) (old new : List Numbered) : Type 0 where
+  pub each : AllByRecursion (λ e. IfSome (filter_of e) (λ f. matching_bindings new f ≡ [])) filters
+  pub kept : (n : Numbered) → StandsIn old n → AllByRecursion (λ e. IfSome (filter_of e) (λ f. matches f n.binding ≡ false)) filters → StandsIn new n
+  pub alone : (n : Numbered) → StandsIn new n → StandsIn old n
+
+-- after a DeleteAcls that is granted
 abbrev pub DeletesEach : Type 0
 DeletesEach = (w : World) (caller : Caller) (r : DeleteAclsRequest) → part_refusal (rules_of w) (alter_questions caller) ≡ None
-    → AllByRecursion (λ e. IfSome (filter_of e) (λ f. matching_bindings (delete_acls_outcome w caller r).world.book.entries f ≡ [])) r.filters
+    → AreDeleted r.filters w.book.entries (delete_acls_outcome w caller r).world.book.entries
 
 -- a request that is refused by the book of before changes nothing, and its refusal is the only one
 pub record IsRefusedWhole (w : World) (r : Refusal) (outcome : HandlerResult) : Type 0 where

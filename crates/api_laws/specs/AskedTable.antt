@@ -46,7 +46,7 @@ row_question caller r = record { who = caller.who; host = caller.host; op = r.op
 abbrev pub coordinator_rows : ℤ → List ℕ → List Row
 coordinator_rows key_type key = if int_eq key_type (pos 0) then row operations.Describe kinds.Group key ∷ [] else if int_eq key_type (pos 1) then row operations.Describe kinds.TransactionalId key ∷ [] else []
 
--- without a transactional id nothing is asked of whom bindings let write to some topic (KIP-679)
+-- without a transactional id a caller whom the bindings let write to some topic is asked nothing (KIP-679)
 abbrev pub producer_rows : World → Caller → Option (List ℕ) → List Row
 producer_rows w caller (Some id) = row operations.Write kinds.TransactionalId id ∷ []
 producer_rows w caller None = if any_topic w.book.entries caller.who caller.host then [] else row operations.IdempotentWrite kinds.Cluster (codes "kafka-cluster") ∷ []

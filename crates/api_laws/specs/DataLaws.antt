@@ -8,9 +8,9 @@ use Rattle.record_batch.specs.Batch.{BatchData, IsBatch, next_offset}
 use Rattle.producer_state.specs.declared.judgment.Judgment.TheVariants.{Next, Repeat}
 use Rattle.producer_state.specs.Sequences.{judgment_of as judged_by_log}
 use Rattle.partition_log.specs.Log.{end_of, at_end, last_stable_offset}
-use Rattle.partition_log.specs.Fetch.{limit_of}
 use Rattle.partition_log.specs.Laws.{total_bytes}
 use Rattle.msg_data.specs.declared.isolation.Isolation.{Isolation}
+use Rattle.msg_data.specs.declared.isolation.Isolation.TheVariants.{ReadUncommitted, ReadCommitted}
 use Rattle.msg_data.specs.declared.produce.ProducedRecords.{ProducedRecords}
 use Rattle.msg_data.specs.declared.produce.ProducedOffset.{ProducedOffset}
 use Rattle.msg_data.specs.declared.fetch.FetchPartition.{FetchPartition}
@@ -24,7 +24,7 @@ use Rattle.broker_world.specs.Logs.{log_at}
 use Rattle.data_handlers.specs.Judged.{partition_at, batch_to_append, topics_produced}
 use Rattle.data_handlers.specs.Produce.{produce_answer}
 use Rattle.data_handlers.specs.Fetch.{budget_for, budget_after_batches, is_outside, served_at, fetched_partition, budget_after, batch_bytes}
-use Rattle.data_handlers.specs.ListOffsets.{listed_offset, listed_at}
+use Rattle.data_handlers.specs.ListOffsets.{listed_offset}
 
 -- ---- Produce
 
@@ -86,11 +86,19 @@ pub record IsUnlisted (number : ℕ) (p : WantedOffset) (answer : FoundOffset) :
   pub timestamp : answer.timestamp ≡ negsuc 0
   pub offset : answer.offset ≡ negsuc 0
 
--- of a partition that is there: for -1 the end, as far as the reader sees, the start for -2, and for any other timestamp the code
--- 42; of one that isn't there the code 3, whatever is wanted
+-- this offset, without an error or a timestamp
+pub record IsListed (offset : ℤ) (p : WantedOffset) (answer : FoundOffset) : Type 0 where
+  pub index : answer.index ≡ p.index
+  pub error : number_of answer.error ≡ pos 0
+  pub timestamp : answer.timestamp ≡ negsuc 0
+  pub at : answer.offset ≡ offset
+
+-- of a partition that is there: for -1 the end of the log, or for read_committed the last stable offset, the start for -2, and for
+-- any other timestamp the code 42; of one that isn't there the code 3, whatever is wanted
 pub record ListsEnds : Type 0 where
-  pub end : (level : Isolation) (topics : List TopicValue) (name : List ℕ) (p : WantedOffset) (log : LogValue) → log_at topics name p.index ≡ Some log → p.timestamp ≡ negsuc 0 → listed_offset level topics name p ≡ listed_at (limit_of level log) p
-  pub start : (level : Isolation) (topics : List TopicValue) (name : List ℕ) (p : WantedOffset) (log : LogValue) → log_at topics name p.index ≡ Some log → p.timestamp ≡ negsuc 1 → listed_offset level topics name p ≡ listed_at (pos 0) p
+  pub uncommitted : (topics : List TopicValue) (name : List ℕ) (p : WantedOffset) (log : LogValue) → log_at topics name p.index ≡ Some log → p.timestamp ≡ negsuc 0 → IsListed (end_of log) p (listed_offset ReadUncommitted topics name p)
+  pub committed : (topics : List TopicValue) (name : List ℕ) (p : WantedOffset) (log : LogValue) → log_at topics name p.index ≡ Some log → p.timestamp ≡ negsuc 0 → IsListed (last_stable_offset log) p (listed_offset ReadCommitted topics name p)
+  pub start : (level : Isolation) (topics : List TopicValue) (name : List ℕ) (p : WantedOffset) (log : LogValue) → log_at topics name p.index ≡ Some log → p.timestamp ≡ negsuc 1 → IsListed (pos 0) p (listed_offset level topics name p)
   pub other : (level : Isolation) (topics : List TopicValue) (name : List ℕ) (p : WantedOffset) (log : LogValue) → log_at topics name p.index ≡ Some log → int_eq p.timestamp (negsuc 0) ≡ false → int_eq p.timestamp (negsuc 1) ≡ false → IsUnlisted 42 p (listed_offset level topics name p)
   pub missing : (level : Isolation) (topics : List TopicValue) (name : List ℕ) (p : WantedOffset) → log_at topics name p.index ≡ None → IsUnlisted 3 p (listed_offset level topics name p)
 
@@ -105,28 +113,33 @@ pub record IsServed (log : LogValue) (offset : ℤ) (budget : ℕ) (given : Bool
   pub from : AllByRecursion (λ (b : BatchData). int_le (next_offset b) offset ≡ true) before
   pub small : (total_bytes batches ≤ budget) ⊎ ((given ≡ false) × (length batches ≡ 1))
 
--- the answer tells these batches, and where the log ends
-pub record IsFetched (log : LogValue) (budget : FetchBudget) (p : FetchPartition) (answer : FetchedRecords) (next : FetchBudget) : Type 0 where
+-- the answer tells these batches, and where the log ends; read_uncommitted is told no list of aborted transactions
+pub record IsFetched (level : Isolation) (log : LogValue) (budget : FetchBudget) (p : FetchPartition) (answer : FetchedRecords) (next : FetchBudget) : Type 0 where
   pub batches : List BatchData
   pub served : IsServed log p.offset (budget_for budget p) budget.given batches
+  pub index : answer.index ≡ p.index
   pub error : answer.error ≡ codes.None
   pub records : answer.records ≡ batch_bytes batches
   pub high : answer.high_watermark ≡ end_of log
   pub stable : answer.last_stable_offset ≡ last_stable_offset log
+  pub uncommitted : level ≡ ReadUncommitted → answer.aborted ≡ None
   -- what was served is no longer left for the partitions that follow
   pub left : next ≡ budget_after_batches budget batches
 
--- no batch, no offset, and the budget is as it was
-pub record IsUnserved (budget : FetchBudget) (answer : FetchedRecords) (next : FetchBudget) : Type 0 where
+-- no batch, no list, no offset, and the budget is as it was
+pub record IsUnserved (budget : FetchBudget) (p : FetchPartition) (answer : FetchedRecords) (next : FetchBudget) : Type 0 where
+  pub index : answer.index ≡ p.index
   pub records : answer.records ≡ []
+  pub aborted : answer.aborted ≡ None
   pub high : answer.high_watermark ≡ negsuc 0
+  pub stable : answer.last_stable_offset ≡ negsuc 0
   pub left : next ≡ budget
 
 -- an offset within the log is served, and one outside it or of a partition that isn't there is not
 pub record FetchesRuns : Type 0 where
   pub within : (level : Isolation) (topics : List TopicValue) (budget : FetchBudget) (name : List ℕ) (p : FetchPartition) (log : LogValue) → log_at topics name p.index ≡ Some log → is_outside log p.offset ≡ false
-      → IsFetched log budget p (fetched_partition level p (served_at level topics budget name p)) (budget_after budget (served_at level topics budget name p))
+      → IsFetched level log budget p (fetched_partition level p (served_at level topics budget name p)) (budget_after budget (served_at level topics budget name p))
   pub outside : (level : Isolation) (topics : List TopicValue) (budget : FetchBudget) (name : List ℕ) (p : FetchPartition) (log : LogValue) → log_at topics name p.index ≡ Some log → is_outside log p.offset ≡ true
-      → ((fetched_partition level p (served_at level topics budget name p)).error ≡ codes.OffsetOutOfRange) × IsUnserved budget (fetched_partition level p (served_at level topics budget name p)) (budget_after budget (served_at level topics budget name p))
+      → ((fetched_partition level p (served_at level topics budget name p)).error ≡ codes.OffsetOutOfRange) × IsUnserved budget p (fetched_partition level p (served_at level topics budget name p)) (budget_after budget (served_at level topics budget name p))
   pub missing : (level : Isolation) (topics : List TopicValue) (budget : FetchBudget) (name : List ℕ) (p : FetchPartition) → log_at topics name p.index ≡ None
-      → ((fetched_partition level p (served_at level topics budget name p)).error ≡ codes.UnknownTopicOrPartition) × IsUnserved budget (fetched_partition level p (served_at level topics budget name p)) (budget_after budget (served_at level topics budget name p))
+      → ((fetched_partition level p (served_at level topics budget name p)).error ≡ codes.UnknownTopicOrPartition) × IsUnserved budget p (fetched_partition level p (served_at level topics budget name p)) (budget_after budget (served_at level topics budget name p))

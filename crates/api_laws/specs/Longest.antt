@@ -1,14 +1,18 @@
--- How much a fetch serves, at either level (Kafka documentation, "Fetch API").
-use Rattle.std.specs.Prelude.{◌≡◌, ◌≤◌, ◌<◌, ℕ, ℤ, Bool, false, List, [], ◌∷◌, ◌++◌, length}
+-- How much a fetch serves, at either level (Kafka protocol guide, "Fetch API (Key: 1)").
+use Rattle.std.specs.Prelude.{◌≡◌, ◌≤◌, ◌<◌, ◌⊎◌, ℕ, ℤ, Bool, true, false, List, [], ◌∷◌, ◌++◌, length}
 use Rattle.record_batch.specs.Batch.{BatchData}
 use Rattle.msg_data.specs.declared.isolation.Isolation.TheVariants.{ReadUncommitted, ReadCommitted}
 use Rattle.partition_log.specs.Log.{end_of, last_stable_offset}
 use Rattle.partition_log.specs.Fetch.{batches_below, batches_from, served_of}
 use Rattle.partition_log.specs.Laws.{total_bytes}
 
--- of the whole batches that stand below the limit, from the one on that holds the offset, no longer beginning fits into the
--- budget; and none is served only where there is none, or where the first is longer than the budget and none is forced
+-- Of the whole batches that stand below the limit, from the one on that holds the offset, it is a beginning, which fits into the
+-- budget or is the first alone where one is forced. No longer beginning fits; and none is served only where there is none, or where
+-- the first is longer than the budget and none is forced.
 pub record IsLongest (log : List BatchData) (offset limit : ℤ) (budget : ℕ) (forced : Bool) (run : List BatchData) : Type 0 where
+  pub rest : List BatchData
+  pub first : batches_below limit (batches_from offset log) ≡ run ++ rest
+  pub fits : (total_bytes run ≤ budget) ⊎ ((forced ≡ true) × (length run ≡ 1))
   pub most : (longer rest : List BatchData) → batches_below limit (batches_from offset log) ≡ longer ++ rest → total_bytes longer ≤ budget → length longer ≤ length run
   pub none : run ≡ [] → (b : BatchData) (rest : List BatchData) → batches_below limit (batches_from offset log) ≡ b ∷ rest → (forced ≡ false) × (budget < length b.bytes)
 

@@ -78,8 +78,8 @@ IsAnsweredAs number offset s es name index log b = (caller : Caller) (r : Produc
     → IsUnchangedBy number offset (world_after_events (first_world s) es) caller r (length part.before) (length part.parts) name p log
 
 pub record LastFiveRepeat : Type 0 where
-  -- One of the last five batches of a producer's epoch that is sent again is told its old offset. (Its numbers are borne by no
-  -- later one as long as there are at most 2^31 records from it on.)
+  -- One of the last five batches of a producer's epoch that is sent again is told its old offset. (No later one has
+  -- its numbers as long as there are at most 2^31 records from it on.)
   pub repeats : (s : Settings) (es : List Event) (name : List ℕ) (index : ℤ) (log before after : LogValue) (b again : BatchData) → StandsIn s es name index log before after b → IsSentAgain b again → batches_after b after ≤ 4 → records_from b after ≤ 2147483648
       → (judged_by_log log again ≡ Repeat b.header.base_offset) × IsAnsweredAs 0 b.header.base_offset s es name index log again
   -- The sixth last and each one before it are out of order: 45. (As long as there are fewer than 2^31 records from it on: after so

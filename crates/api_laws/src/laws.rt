@@ -105,8 +105,8 @@ pub fn fetch_is_within()
     ensures { FetchIsWithin }
 {}
 
-/// An allowed partition of a ListOffsets is told, for the timestamp -1, the end of its log as far as the reader's isolation level
-/// sees it, and for -2 the start. Any other timestamp is INVALID_REQUEST (42), and a partition that isn't there
+/// An allowed partition of a ListOffsets is told, for the timestamp -1, the end of its log, or for read_committed the last stable
+/// offset, and for -2 the start. Any other timestamp is INVALID_REQUEST (42), and a partition that isn't there
 /// UNKNOWN_TOPIC_OR_PARTITION (3).
 pub fn lists_ends()
     ensures { ListsEnds }
@@ -140,12 +140,13 @@ pub fn list_offsets_depends_on_grants()
 {}
 
 /// After a CreateAcls that is allowed, each of its entries that is a valid binding is among the ACLs, whatever its other entries
-/// are.
+/// are. The ACLs of before stand before those that are new, and each new one is an entry.
 pub fn creates_each()
     ensures { CreatesEach }
 {}
 
-/// After a DeleteAcls that is allowed, none of its filters matches an ACL any more.
+/// After a DeleteAcls that is allowed, none of its filters matches an ACL any more. Each ACL that none matched is there as before,
+/// and there is no other.
 pub fn deletes_each()
     ensures { DeletesEach }
 {}
@@ -284,8 +285,9 @@ pub fn refused_keeps_out()
     ensures { RefusedKeepsOut }
 {}
 
-/// A request, or a part of one, that is told an error changes nothing; but an InitProducerId that is told CONCURRENT_TRANSACTIONS
-/// (51) may have aborted the open transaction of its id.
+/// A request that is told one error for all changes nothing; so does a Produce, an OffsetCommit or a TxnOffsetCommit of which each
+/// part is told an error, and an AddPartitionsToTxn of which one is. But an InitProducerId that is told CONCURRENT_TRANSACTIONS (51)
+/// may have aborted the open transaction of its id.
 pub fn errors_change_nothing()
     ensures { ErrorsChangeNothing }
 {}

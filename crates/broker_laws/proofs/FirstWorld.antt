@@ -144,9 +144,12 @@ all_added (b ∷ bs) done book h = subst (λ (l : List Binding). Holds l (with_b
 nothing_held : Holds [] empty_book
 nothing_held = record { numbered = tt; next = omega arith; all = λ b there. there; alone = λ b there. there; once = tt; in_order = λ different. refl }
 
+first_held : (acls : List Binding) → Holds acls (with_bindings empty_book acls)
+first_held acls = all_added acls [] empty_book nothing_held
+
 first_bindings : (acls : List Binding) → AreFirstBindings acls (with_bindings empty_book acls).entries
 first_bindings acls =
-    let h = all_added acls [] empty_book nothing_held in
+    let h = first_held acls in
     record { numbered = h.numbered; all = h.all; alone = h.alone; once = h.once; in_order = h.in_order }
 
 -- ---- the topics
@@ -176,5 +179,11 @@ first_is s none = record {
   supers = refl;
   no_group = refl;
   no_transaction = refl;
+  no_marker = refl;
+  no_producer_id = refl;
   no_event = refl;
+  moment = refl;
+  next_number = (first_held s.acls).next;
+  max_batch = refl;
+  max_txn_timeout = refl;
 }

@@ -153,7 +153,7 @@ call_leaves w None refused served name t Told Law is named error law told =
 
 who_is : (w : World) (g : Group) (r : JoinGroupRequest) (p : OfferedProtocol) → Entrant g w.events r.member (member_id r.member w.events)
     → ComesNew w g r (join_welcome (welcome g r.member w.events p)) ⊎ ComesBack g r (join_welcome (welcome g r.member w.events p))
-who_is w g r p (New nameless unknown_group_error named) = inl (record { nameless = nameless; unknown_group_error = unknown_group_error; named = named })
+who_is w g r p (New nameless no_member named) = inl (record { nameless = nameless; no_member = no_member; named = named })
 who_is w g r p (Back names was named) = inr (record { names = names; was = was; named = named })
 
 entered_joins : (w : World) (g : Group) (r : JoinGroupRequest) (timeout : ℕ) (p : OfferedProtocol) → session_timeout r.session_timeout ≡ Some timeout → chosen_protocol r ≡ Some p → entry_refusal g r.member ≡ None
@@ -422,7 +422,7 @@ pub leave_same : (x y : LeaveGroupReply) → replies.LeaveGroup x ≡ replies.Le
 leave_same x y h = cc
 
 is_left : (g : Group) → IsLeft g (without_member g)
-is_left g = record { unknown_group_error = refl; generation = refl }
+is_left g = record { no_member = refl; generation = refl }
 
 leave_turns : (w : World) (r : LeaveGroupRequest) (x : LeaveGroupReply) (t : GroupTransition (Unit {0})) → IsTurnedAway t ⊎ HasLeft (group_of w.groups r.group) r t
     → LeaveTold x (replies.LeaveGroup (leave_reply (code_in (answer_of t)))) → Leaves (group_of w.groups r.group) (group_after (group_of w.groups r.group) t) r

@@ -115,7 +115,7 @@ staged_as g generation member b e = ap (λ (t : Bool). cond t None (member_refus
 stage_numbers : (g : Group) (generation : ℤ) (member : List ℕ) → IsStageNumber g generation member (refusal_number (stage_refusal g generation member))
 unfolding number_of
 stage_numbers g generation member = record {
-  unknown_group_error = λ by. ap refusal_number (staged_as g generation member true (is_nobody generation member by));
+  nobody = λ by. ap refusal_number (staged_as g generation member true (is_nobody generation member by));
   stranger = λ named other. ap refusal_number (staged_as g generation member false (somebody generation member named) ∙ stranger_refused g generation member other);
   other_generation = λ named is other. ap refusal_number (staged_as g generation member false (somebody generation member named) ∙ other_refused g generation member is other);
   own = λ named own. ap refusal_number (staged_as g generation member false (somebody generation member named) ∙ own_unrefused g generation member own);
@@ -125,9 +125,9 @@ stage_numbers g generation member = record {
 
 may_commit : (g : Group) (generation : ℤ) (member : List ℕ) → commit_refusal g generation member ≡ None → MayCommit g generation member
 may_commit g generation member h = by_test (is_unmanaged generation member) refl h where
-  unknown_group_error : (o : Option Member) → cond (is_some o) (Some errors.UnknownMemberId) None ≡ None → o ≡ None
-  unknown_group_error None h = refl
-  unknown_group_error (Some m) h = absurd (let clash : Some errors.UnknownMemberId ≡ None = h in cc)
+  no_member : (o : Option Member) → cond (is_some o) (Some errors.UnknownMemberId) None ≡ None → o ≡ None
+  no_member None h = refl
+  no_member (Some m) h = absurd (let clash : Some errors.UnknownMemberId ≡ None = h in cc)
 
   assigned : (o : Option ErrorCode) → member_refusal g generation member ≡ o → (a : Option (List ℕ)) → g.assignment ≡ a → or_awaited o a ≡ None → IsAssigned g generation member
   assigned (Some code) e a has h = absurd (let clash : Some code ≡ None = h in cc)
@@ -135,7 +135,7 @@ may_commit g generation member h = by_test (is_unmanaged generation member) refl
   assigned None e (Some a) has h = record { by = own_is g generation member e; assignment = a; has = has }
 
   by_test : (b : Bool) → is_unmanaged generation member ≡ b → cond b (cond (is_some g.member) (Some errors.UnknownMemberId) None) (or_awaited (member_refusal g generation member) g.assignment) ≡ None → MayCommit g generation member
-  by_test true e h = inl (record { by = nobody_is generation member e; empty = unknown_group_error g.member h })
+  by_test true e h = inl (record { by = nobody_is generation member e; empty = no_member g.member h })
   by_test false e h = inr (assigned (member_refusal g generation member) refl g.assignment refl h)
 
 may_stage : (g : Group) (generation : ℤ) (member : List ℕ) → stage_refusal g generation member ≡ None → MayStage g generation member
@@ -185,7 +185,7 @@ commit_before old new same generation member n h = record {
 
 stage_before : (old new : Group) → IsAsBefore old new → (generation : ℤ) (member : List ℕ) (n : ℤ) → IsStageNumber new generation member n → IsStageNumber old generation member n
 stage_before old new same generation member n h = record {
-  unknown_group_error = λ by. h.unknown_group_error by;
+  nobody = λ by. h.nobody by;
   stranger = λ named other. h.stranger named (λ is. other (member_then old new same member is));
   other_generation = λ named is other. h.other_generation named (member_before old new same member is) (λ e. other (sym same.generation ∙ e));
   own = λ named own. h.own named (own_before old new same member generation own);

@@ -53,7 +53,7 @@ module _ (w : World) (e : Event) (g : List ℕ) (go : MembersGo w e g) where
   stays_by : (m n : Member) → (group_in w g).member ≡ Some m → (group_in (step w e) g).member ≡ Some n → MayChange w e g ⊎ IsAsBefore (group_in w g) (group_in (step w e) g) → n.id ≡ m.id
   stays_by m n had has (inl (inl j)) = by_who (go.joins j).who where
     by_who : ComesNew w (group_in w g) j.request j.reply ⊎ ComesBack (group_in w g) j.request j.reply → n.id ≡ m.id
-    by_who (inl c) = absurd (not_both (group_in w g).member m c.unknown_group_error had)
+    by_who (inl c) = absurd (not_both (group_in w g).member m c.no_member had)
     by_who (inr c) =
         ap (λ (x : Member). x.id) (one_of (group_in (step w e) g).member n (go.joins j).member has (go.joins j).has)
         ∙ sym (go.joins j).named
@@ -62,8 +62,8 @@ module _ (w : World) (e : Event) (g : List ℕ) (go : MembersGo w e g) where
         ∙ ap (λ (x : Member). x.id) (one_of (group_in w g).member c.was.member m c.was.has had)
   stays_by m n had has (inl (inr (inl s))) = heard_stays m n had has (go.syncs s).heard
   stays_by m n had has (inl (inr (inr (inl b)))) = heard_stays m n had has (go.beats b).heard
-  stays_by m n had has (inl (inr (inr (inr (inl l))))) = absurd (not_both (group_in (step w e) g).member n (go.leaves l).left.unknown_group_error has)
-  stays_by m n had has (inl (inr (inr (inr (inr x))))) = absurd (not_both (group_in (step w e) g).member n (go.lapses x).unknown_group_error has)
+  stays_by m n had has (inl (inr (inr (inr (inl l))))) = absurd (not_both (group_in (step w e) g).member n (go.leaves l).left.no_member has)
+  stays_by m n had has (inl (inr (inr (inr (inr x))))) = absurd (not_both (group_in (step w e) g).member n (go.lapses x).no_member has)
   stays_by m n had has (inr same) = ap (λ (x : Member). x.id) (one_of (group_in (step w e) g).member n m has (same.member ∙ had))
 
 pub in_short : (w : World) (e : Event) (g : List ℕ) → MembersInShort w e g
@@ -107,7 +107,7 @@ ends_between w g e f between j k differ =
     by_end (ends_or_stays (step w e) between g j.reply.member joins.member joins.has (sym joins.named)) where
       by_who : HasStill (world_after_events (step w e) between) g j.reply.member
           → ComesNew (world_after_events (step w e) between) (group_in (world_after_events (step w e) between) g) k.request k.reply ⊎ ComesBack (group_in (world_after_events (step w e) between) g) k.request k.reply → ⊥
-      by_who (n, has, is) (inl c) = not_both (group_in (world_after_events (step w e) between) g).member n c.unknown_group_error has
+      by_who (n, has, is) (inl c) = not_both (group_in (world_after_events (step w e) between) g).member n c.no_member has
       by_who (n, has, is) (inr c) =
           differ (sym is ∙ ap (λ (x : Member). x.id) (one_of (group_in (world_after_events (step w e) between) g).member n c.was.member has c.was.has) ∙ c.was.named ∙ sym c.named)
 
@@ -116,7 +116,7 @@ ends_between w g e f between j k differ =
       by_end (inr h) = absurd (by_who h ((members_go (world_after_events (step w e) between) f g).joins k).who)
 
 first_is : (gs : List Group) (g : List ℕ) → gs ≡ [] → IsFirst (group_of gs g)
-first_is gs g none = subst (λ (l : List Group). IsFirst (group_of l g)) (sym none) (record { unknown_group_error = refl; generation = refl; assignment = refl; offsets = refl })
+first_is gs g none = subst (λ (l : List Group). IsFirst (group_of l g)) (sym none) (record { no_member = refl; generation = refl; assignment = refl; offsets = refl })
 
 pub members_come_and_go : (w : World) → MembersComeAndGo w
 members_come_and_go w = record { first = λ none g. first_is w.groups g none; each = members_go w; short = in_short w; between = ends_between w }

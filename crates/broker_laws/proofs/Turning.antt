@@ -131,16 +131,16 @@ pub data Entrant (g : Group) (place : ℕ) (member id : List ℕ) : Type 0 where
 
 pub entrant_is : (g : Group) (place : ℕ) (member : List ℕ) → entry_refusal g member ≡ None → Entrant g place member (member_id member place)
 entrant_is g place member h = by_test (is_empty member) refl h where
-  unknown_group_error : (o : Option Member) → cond (is_some o) (Some errors.GroupMaxSizeReached) None ≡ None → o ≡ None
-  unknown_group_error None h = refl
-  unknown_group_error (Some m) h = absurd (let clash : Some errors.GroupMaxSizeReached ≡ None = h in cc)
+  none_there : (o : Option Member) → cond (is_some o) (Some errors.GroupMaxSizeReached) None ≡ None → o ≡ None
+  none_there None h = refl
+  none_there (Some m) h = absurd (let clash : Some errors.GroupMaxSizeReached ≡ None = h in cc)
 
   known : (b : Bool) → cond b None (Some errors.UnknownMemberId) ≡ None → b ≡ true
   known true h = refl
   known false h = absurd (let clash : Some errors.UnknownMemberId ≡ None = h in cc)
 
   by_test : (b : Bool) → is_empty member ≡ b → cond b (cond (is_some g.member) (Some errors.GroupMaxSizeReached) None) (cond (is_member g member) None (Some errors.UnknownMemberId)) ≡ None → Entrant g place member (cond b (codes "m-" ++ decimal place) member)
-  by_test true e h = New (empty_is member e) (unknown_group_error g.member h) refl
+  by_test true e h = New (empty_is member e) (none_there g.member h) refl
   by_test false e h = Back (full_is member e) (member_is g member (known (is_member g member) h)) refl
 
 entry_error : (g : Group) (member : List ℕ) → entry_refusal g member ≡ Some errors.None → ⊥

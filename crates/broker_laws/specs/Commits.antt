@@ -65,7 +65,7 @@ abbrev pub MayStage : Group → ℤ → List ℕ → Type 0
 MayStage g generation member = IsNobody generation member ⊎ IsMemberIn g member generation
 
 pub record IsStageNumber (g : Group) (generation : ℤ) (member : List ℕ) (number : ℤ) : Type 0 where
-  pub unknown_group_error : IsNobody generation member → number ≡ pos 0
+  pub nobody : IsNobody generation member → number ≡ pos 0
   pub stranger : (IsNobody generation member → ⊥) → (IsMember g member → ⊥) → number ≡ pos 25
   pub other_generation : (IsNobody generation member → ⊥) → IsMember g member → g.generation ≢ generation → number ≡ pos 22
   pub own : (IsNobody generation member → ⊥) → IsMemberIn g member generation → number ≡ pos 0

@@ -54,7 +54,13 @@ pub record IsFirstWorld (s : Settings) (w : World) : Type 0 where
   pub supers : w.supers ≡ s.supers
   pub no_group : w.groups ≡ []
   pub no_transaction : w.coordinator.transactions ≡ []
+  pub no_marker : w.coordinator.warrants ≡ []
+  pub no_producer_id : w.coordinator.given ≡ []
   pub no_event : w.events ≡ 0
+  pub moment : w.moment ≡ 0
+  pub next_number : w.book.next ≡ 1 + length w.book.entries
+  pub max_batch : w.node.max_batch ≡ s.max_batch
+  pub max_txn_timeout : w.node.max_txn_timeout ≡ s.max_txn_timeout
 
 abbrev pub FirstWorldIsTheSettings : Type 0
 FirstWorldIsTheSettings = (s : Settings) → first_fault s ≡ None → IsFirstWorld s (first_world s)

@@ -104,7 +104,7 @@ MayChange w e g = IsJoin w e g ⊎ (IsSync w e g ⊎ (IsBeat w e g ⊎ (IsLeave 
 -- who names no member comes in where there is none, and is named after the number of events so far
 pub record ComesNew (w : World) (old : Group) (request : JoinGroupRequest) (reply : JoinGroupReply) : Type 0 where
   pub nameless : request.member ≡ []
-  pub unknown_group_error : old.member ≡ None
+  pub no_member : old.member ≡ None
   pub named : reply.member ≡ codes "m-" ++ decimal w.events
 
 -- who names a member is that member, and comes back
@@ -172,7 +172,7 @@ pub record Beats (w : World) (old new : Group) (request : HeartbeatRequest) : Ty
 
 -- there is no member any more, and the generation stays
 pub record IsLeft (old new : Group) : Type 0 where
-  pub unknown_group_error : new.member ≡ None
+  pub no_member : new.member ≡ None
   pub generation : new.generation ≡ old.generation
 
 -- it comes from the member
@@ -232,7 +232,7 @@ EndsBetween w = (g : List ℕ) (e f : Event) (between : List Event) (j : IsJoin 
 
 -- so it is before a group begins
 pub record IsFirst (g : Group) : Type 0 where
-  pub unknown_group_error : g.member ≡ None
+  pub no_member : g.member ≡ None
   pub generation : g.generation ≡ pos 0
   pub assignment : g.assignment ≡ None
   pub offsets : g.offsets ≡ []

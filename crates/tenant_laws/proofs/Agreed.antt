@@ -72,7 +72,7 @@ counted_on x y TransactionalId name same = same
 
 pub agreement : (v w : World) (caller : Caller) (client : Option (List ℕ)) (request : Request) → IsSame v w caller request → AgreeAfter v w (step v (Ask caller client request)) (step w (Ask caller client request))
 agreement v w caller client request same =
-    let behind = agreed v w caller request same in
+    let agreed_after = agreed v w caller request same in
     let x : World = (request_outcome v caller request).world in
     let y : World = (request_outcome w caller request).world in
-    record { base = counted_base x y behind.base; resources = λ kind name on. counted_on x y kind name (behind.resources kind name on) }
+    record { base = counted_base x y agreed_after.base; resources = λ kind name on. counted_on x y kind name (agreed_after.resources kind name on) }

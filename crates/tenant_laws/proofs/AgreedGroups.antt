@@ -100,8 +100,8 @@ module _ (v w : World) (caller : Caller) (base : SameBase v w) where
       let first = id_question caller r.transactional_id in
       let second = read_question caller r.group in
       let last = question_of caller operations.Read kinds.Topic name in
-      let behind = rest_of (verdict w.book w.supers first) first (part_refusal (rules_of w) (second ∷ last ∷ [])) none in
-      let there : log_at v.topics name p.index ≡ log_at w.topics name p.index = same_log v.topics w.topics name p.index (same_topic v w last same.1.1 (rest_of (verdict w.book w.supers second) second (part_refusal (rules_of w) (last ∷ [])) behind)) in
+      let none_later = rest_of (verdict w.book w.supers first) first (part_refusal (rules_of w) (second ∷ last ∷ [])) none in
+      let there : log_at v.topics name p.index ≡ log_at w.topics name p.index = same_log v.topics w.topics name p.index (same_topic v w last same.1.1 (rest_of (verdict w.book w.supers second) second (part_refusal (rules_of w) (last ∷ [])) none_later)) in
       let held : staging_refusal v.coordinator s ≡ staging_refusal w.coordinator s = ap (λ (t : Option Transaction). code_unless_none (holding_code_of t s.pair (targets.Group s.group))) (same.0 (yes_of (verdict w.book w.supers first) first (part_refusal (rules_of w) (second ∷ last ∷ [])) none)) in
       ap (λ (x : Option ErrorCode). find_group (groups_after us (transition_by x s us o (log_at v.topics name p.index))) other) held
       ∙ ap (λ (log : Option LogValue). find_group (groups_after us (transition_by (staging_refusal w.coordinator s) s us o log)) other) there

@@ -72,7 +72,8 @@ use Rattle.plain_broker.specs.Exactly.{IsExact}
 use Rattle.plain_broker.proofs.Together.{plain_of_allowed}
 use Rattle.plain_broker.proofs.Exact.{allowed_is_exact}
 use Rattle.tenant_laws.specs.Laws.{SameVerdicts}
-use Rattle.tenant_laws.specs.Replies.{SameNumbers, SameAbout, granted_parts, Sized, described_sizes, is_yes, SameGrants, SameForReply, SameForParts, RepliesDependOnGrantedParts, AnswersDependOnGrantedParts, ReceiptsDependOnGrantedParts}
+use Rattle.api_laws.specs.Headline.{is_yes}
+use Rattle.tenant_laws.specs.Replies.{SameNumbers, SameAbout, granted_parts, Sized, described_sizes, SameGrants, SameForReply, SameForParts, RepliesDependOnGrantedParts, AnswersDependOnGrantedParts, ReceiptsDependOnGrantedParts}
 use Rattle.tenant_laws.proofs.Decided.{SameRefusal, SameCode, all_front, all_back, each_part, each_code, any_same, refusals_same, granted_same, put_same, names_same, infos_same}
 use Rattle.tenant_laws.proofs.Core.{plain_same}
 use Rattle.tenant_laws.proofs.Sizes.{told_sized, infos_of, told_by_sizes, infos_by_sizes}

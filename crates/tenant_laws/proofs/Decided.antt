@@ -26,7 +26,8 @@ use Rattle.plain_broker.specs.Allowed.{unrefused_topic, unrefused_topics, unrefu
 use Rattle.plain_broker.proofs.Terms.{refused_by, refused_answer}
 use Rattle.plain_broker.specs.PutBack.{topics_with_refused, infos_with_refused}
 use Rattle.tenant_laws.specs.Laws.{SameVerdicts}
-use Rattle.tenant_laws.specs.Replies.{SameGrants, is_yes}
+use Rattle.api_laws.specs.Headline.{is_yes}
+use Rattle.tenant_laws.specs.Replies.{SameGrants}
 
 -- ---- lists after one another
 

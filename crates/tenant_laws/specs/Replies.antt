@@ -4,8 +4,6 @@ use Rattle.std.specs.Prelude.{◌≡◌, ℕ, Bool, true, false, ◌&&◌, List,
 use Rattle.std.specs.List.{AllByRecursion}
 use Rattle.acl_binding.specs.declared.question.Caller.{Caller}
 use Rattle.acl_binding.specs.declared.question.Question.{Question}
-use Rattle.acl_binding.specs.declared.question.Verdict.{Verdict}
-use Rattle.acl_binding.specs.declared.question.Verdict.TheVariants.{Yes, Denied, Nothing}
 use Rattle.authorizer.specs.Policy.{verdict}
 use Rattle.authorizer.specs.Asking.{Rules}
 use Rattle.msg_admin.specs.declared.request.Request.{Request}
@@ -15,6 +13,7 @@ use Rattle.broker_world.specs.World.{World, TopicValue, rules_of}
 use Rattle.group_handlers.specs.OffsetFetch.{group_question}
 use Rattle.api_dispatch.specs.Step.{reply_to}
 use Rattle.request_handlers.specs.Core.{CoreValue, IsCore}
+use Rattle.api_laws.specs.Headline.{is_yes}
 use Rattle.api_laws.specs.Tenants.{SameOn}
 use Rattle.api_laws.specs.GroupLaws.{described_slots}
 use Rattle.api_dispatch.specs.Questions.{parts_of, questions_of}
@@ -28,11 +27,6 @@ pub record SameNumbers (v w : World) : Type 0 where
   pub node : v.node ≡ w.node
   pub events : v.events ≡ w.events
   pub given : map is_some v.coordinator.given ≡ map is_some w.coordinator.given
-
-abbrev pub is_yes : Verdict → Bool
-is_yes Yes = true
-is_yes (Denied n) = false
-is_yes Nothing = false
 
 -- each of the questions is granted in both or in neither, whatever binding denies it
 abbrev pub SameGrants : World → World → List Question → Type 0
