@@ -84,7 +84,7 @@ REFUSED = (
 
 
 # What a reader is told of lines, each by its number in the whole input: `---` is the fifth.
-BLANKS = "a line is `req USER HOST HEX`, `mark` or `tick N`, its words parted by one blank each"
+BLANKS = "a line is `req USER HOST HEX`, `mark` or `tick N`, with one blank between each two words"
 RETURNED = "the line `---` ends with a carriage return, so no script is parted from the settings"
 TOLD = (
     (b"---\nreqq a h 00\n", [f"kbroker: line 6 of the input: {BLANKS}"]),

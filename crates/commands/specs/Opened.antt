@@ -8,9 +8,9 @@ use Rattle.commands.specs.declared.open.Unopened.TheVariants as unopened
 use Rattle.commands.specs.Replay.{Answer}
 use Rattle.commands.specs.Printed.{Printed, Replayed}
 
--- the run that prints the same
+-- the run that prints the same; of settings that are refused it has the status 1
 abbrev pub printed_by : Unopened → Result ℕ Early
-printed_by (unopened.Refused status) = Ok status
+printed_by unopened.Refused = Ok 1
 printed_by (unopened.Early early) = Err early
 
 -- the core and the users are those of the settings, and nothing is printed

@@ -33,7 +33,7 @@ parts_at_blank text =
 
 -- ---- `req USER HOST HEX`
 
--- the user, the host and the digits after `req `: words that are not empty, parted by one blank
+-- after `req `: the user and the host, neither of which is empty, and all that follows the second blank
 abbrev pub words_of : List ℕ → Option (List ℕ × List ℕ × List ℕ)
 words_of text =
     option_and_then (λ b. option_and_then (λ c.

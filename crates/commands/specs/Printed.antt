@@ -8,7 +8,7 @@ use Rattle.commands.specs.declared.cause.Early.TheVariants.{Settings, Script}
 use Rattle.request_handlers.specs.Stop.{stop_line}
 use Rattle.commands.specs.Replay.{Answer, refused_line}
 
--- nothing was written where memory was refused at the settings
+-- nothing was written where an allocation failed for the settings
 abbrev pub IsUnwritten : Early → List ℕ → Type 0
 IsUnwritten early done = early ≡ Settings → done ≡ []
 
@@ -25,7 +25,7 @@ pub record Printed (old new : Option (List ℕ)) (answer : Answer) (r : Result �
 abbrev pub IsFrontOf : List ℕ → List ℕ → Type 0
 IsFrontOf text line = (rest : List ℕ) × (text ++ rest ≡ line)
 
--- the last words of a run that ends early: one line where memory was refused, and else nothing
+-- the last words of a run that ends early: one line after an allocation failure, and else nothing
 abbrev pub last_words : Early → List ℕ
 last_words Settings = refused_line faults.NoMemory
 last_words Script = stop_line NoMemory

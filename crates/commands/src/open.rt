@@ -1,6 +1,6 @@
 //! Settings in, a core out: what a server is started with.
 
-ghost use Rattle.std.specs.Prelude.{◌≡◌, IfOk, IfSome, length};
+ghost use Rattle.std.specs.Prelude.{◌≡◌, IfOk, IfErr, IfSome, length};
 ghost use Rattle.byte_streams.specs.Device.{TakesWithin};
 ghost use Rattle.request_handlers.specs.Core.{first_core};
 ghost use Rattle.commands.specs.Check.{settings_answer, check_answer};
@@ -29,8 +29,8 @@ pub struct Opened {
 /// Why no core is opened.
 #[derive(Clone, Copy, Debug, PartialEq, Eq)]
 pub(crate) enum Unopened {
-    /// The settings are refused, and that is printed; holds the exit status.
-    Refused(u8),
+    /// The settings are refused, and that is printed.
+    Refused,
     /// A read, a write or an allocation failed, or the input is too long. A refusal of the settings isn't printed whole.
     Early(Early),
 }
@@ -63,7 +63,7 @@ pub(crate) fn warn<E: Write>(alloc: Global, document: &Document, errors: &mut E)
 /// Reads settings, prints warnings about them, and opens a core with them, whose tables hash by `hasher`. Where they are refused,
 /// it prints `settings refused: FAULT` to `writer`, and why to `errors`. `Early` is an allocation failure, or a failed write of
 /// that line.
-#[tactic(auto, using(crate::proofs::OpenLemmas::is_of))]
+#[tactic(auto, using(crate::proofs::OpenLemmas::is_of, crate::proofs::OpenLemmas::refused_opens))]
 fn open_settings<W: Write, E: Write>(
     alloc: Global,
     hasher: RandomState,
@@ -80,8 +80,8 @@ fn open_settings<W: Write, E: Write>(
         Ok(document) => document,
         Err(SettingsFault::NoMemory) => return Err(Unopened::Early(Early::Settings)),
         Err(fault) => {
-            let status = refuse(alloc, input, fault, writer, errors)?;
-            return Err(Unopened::Refused(status));
+            refuse(alloc, input, fault, writer, errors)?;
+            return Err(Unopened::Refused);
         }
     };
     warn(alloc, &document, errors);
@@ -138,11 +138,12 @@ pub fn open_and_explain<R: Read, W: Write, E: Write>(
     ensures opens { IfSome (R.remaining reader.old)
         (λ input. OpensOr (W.contents writer.old) (W.contents writer.new) input (check_answer input)
         result) }
+    ensures failed { IfErr result (λ status. status ≡ 1) }
     ensures bounded { TakesWithin (R.remaining reader.old) (R.remaining reader.new) }
 {
     match open_whole(alloc, hasher, reader, writer, errors) {
         Ok(opened) => Ok(opened),
-        Err(Unopened::Refused(status)) => Err(status),
+        Err(Unopened::Refused) => Err(1),
         Err(Unopened::Early(early)) => {
             end_early(writer, early);
             explain(alloc, errors, Place::Run, early);

@@ -40,8 +40,8 @@ pub enum Unreadable {
     /// It is not UTF-8.
     #[error("the line is not UTF-8")]
     Text,
-    /// It is not `mark`, nor `req` or `tick` and their words, parted by one blank each.
-    #[error("a line is `req USER HOST HEX`, `mark` or `tick N`, its words parted by one blank each")]
+    /// It is not `mark`, nor `req` or `tick` and their words with one blank between each two.
+    #[error("a line is `req USER HOST HEX`, `mark` or `tick N`, with one blank between each two words")]
     Words,
     /// The frame is not written in pairs of hexadecimal digits.
     #[error("the frame is not written in pairs of hexadecimal digits")]

@@ -1,7 +1,7 @@
 //! The commands `replay` and `check`: settings and a script in, what the broker answers out; settings in, what is
 //! wrong with them out.
 
-ghost use Rattle.std.specs.Prelude.{◌≡◌, [], IfSome, IfErr};
+ghost use Rattle.std.specs.Prelude.{◌≡◌, [], IfOk, IfSome, IfErr};
 ghost use Rattle.byte_streams.specs.Device.{TakesWithin, Wrote};
 ghost use Rattle.request_handlers.specs.Core.{first_core};
 ghost use Rattle.commands.specs.Lines.{lines_of};
@@ -135,8 +135,9 @@ pub(crate) fn refuse<W: Write, E: Write>(
     writer: &mut W,
     errors: &mut E,
 ) -> Result<u8, Early>
-    ensures { Printed (W.contents writer.old) (W.contents writer.new) (refused_answer fault)
+    ensures printed { Printed (W.contents writer.old) (W.contents writer.new) (refused_answer fault)
         result }
+    ensures failed { IfOk result (λ status. status ≡ 1) }
 {
     let Ok(line) = refused_text(alloc, fault) else {
         return Err(Early::Settings);
