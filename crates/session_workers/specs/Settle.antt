@@ -1,5 +1,5 @@
 -- When the receipts of all ends are those of a trail.
-use Rattle.std.specs.Prelude.{◌≡◌, ℕ, ◌<◌, ◌≤◌, ◌==◌, Bool, false, List, length, codes, Vec, slice_get, slice_index_or, count_by, sum_by, All, Any, IsSomeAnd, ⊤, if◌then◌else◌}
+use Rattle.std.specs.Prelude.{◌≡◌, ℕ, ◌<◌, ◌≤◌, ◌==◌, Bool, false, List, length, codes, Vec, slice_get, slice_index_or, count_by, sum_by, All, Any, IsSomeAnd, if◌then◌else◌}
 use Rattle.std.specs.declared.alloc.Global.{Global}
 use Rattle.audit_trail.specs.declared.trail.Entry.{Entry}
 use Rattle.request_handlers.specs.Receipt.{ReceiptValue}
@@ -27,12 +27,12 @@ pub record Settles (trail : List Entry) (ends : List (Vec ReceiptValue Global)) 
   pub told : AreInTrail trail ends
   pub once : (place : ℕ) → place < length trail → times_in place ends ≡ 1
 
--- where each fault comes
+-- where each fault comes: strays are looked for first, and an allocation may fail only after that
 abbrev pub Faults : List Entry → List (Vec ReceiptValue Global) → SettleFault → Type 0
 Faults trail ends Stray = Any (λ v. Any (λ r. ¬ IsInTrail trail r) v.items) ends
 Faults trail ends Twice = AreInTrail trail ends × ((place : ℕ) × (1 < times_in place ends))
 Faults trail ends Missing = AreInTrail trail ends × ((place : ℕ) → place < length trail → times_in place ends ≤ 1) × ((place : ℕ) × (place < length trail) × (times_in place ends ≡ 0))
-Faults trail ends NoMemory = ⊤
+Faults trail ends NoMemory = AreInTrail trail ends
 
 -- how often a place was ticked off
 abbrev pub tick_count : List Bool → ℕ → ℕ
