@@ -4,10 +4,11 @@ use crate::control_command::{ControlCommand, parse_control_command};
 use crate::operator_log::OperatorLog;
 use crate::state_report::state_report_of;
 use crate::state_text::state_text;
-use crate::trail_delta::{lines_of, refusals_since};
+use crate::trail_delta::{TrailDelta, delta_since, lines_of};
 use authorizer::Refusal;
 use byte_streams::write_whole;
-use request_handlers::{Core, Stop};
+use commands::content;
+use request_handlers::Stop;
 use session_pool::{DeskLedger, LockedDesk, ShutdownFlag};
 use std::alloc::{AllocError, Global};
 use std::io::{BufRead, Write};
@@ -37,22 +38,6 @@ pub(crate) struct Asking<'d, 'r, L: DeskLedger, R: Wait, I: BufRead, O: Write> {
     steering: Steering<'d, I, O>,
     /// How many entries of the trail earlier answers to `audit` cover.
     told: usize,
-}
-
-/// The refusals since the last `audit`, and how many entries the trail has.
-#[derive(Drop)]
-struct Refused {
-    refusals: Vec<Refusal>,
-    len: usize,
-}
-
-/// The refusals in the trail's entries from the place `since` on, counted from 0, and how many entries the trail has.
-fn refused_since(alloc: Global, core: &Core, since: usize) -> Result<Refused, AllocError> {
-    let trail = core.trail();
-    Ok(Refused {
-        refusals: refusals_since(alloc, trail, since)?,
-        len: trail.len(),
-    })
 }
 
 /// The answer to `audit`: an audit line for each refusal, and at last `refusals N`.
@@ -125,10 +110,7 @@ impl<'d, 'r, L: DeskLedger, R: Wait + time::Clock, I: BufRead, O: Write> Asking<
             Ok(count) if count > 0 => {}
             _ => return Some(ControlCommand::End),
         }
-        match line.as_slice().split_last() {
-            Some((last, front)) if *last == b'\n' => parse_control_command(front),
-            _ => parse_control_command(line.as_slice()),
-        }
+        parse_control_command(content(line.as_slice()))
     }
 
     /// Answers the line `state`: how things stand in the broker, or the line of `Stop::NoMemory`.
@@ -145,8 +127,11 @@ impl<'d, 'r, L: DeskLedger, R: Wait + time::Clock, I: BufRead, O: Write> Asking<
     /// answer has these refusals too.
     pub(crate) fn tell_refusals(&mut self) {
         let (alloc, told) = (self.alloc, self.told);
-        let lines = match self.desk.look(|core| refused_since(alloc, core, told)) {
-            Ok(Refused { refusals, len }) => {
+        let lines = match self
+            .desk
+            .look(|core| delta_since(alloc, core.trail(), told))
+        {
+            Ok(TrailDelta { refusals, len }) => {
                 let text = refused_text(alloc, refusals.as_slice());
                 if text.is_ok() {
                     self.told = len;

@@ -1,7 +1,8 @@
 //! The steps of the clock, after each of which an operator reads what is new.
 
-ghost use Rattle.std.specs.Prelude.{◌≡◌, false, Some, IfSome, IsSome, is_ok};
+ghost use Rattle.std.specs.Prelude.{◌≡◌, ◌<◌, false, Some, IfSome, IsSome, is_ok};
 ghost use Rattle.session_pool.specs.Steps.{IsDue, step_event, pending_after_outcome};
+ghost use Rattle.session_pool.specs.declared.steps.Step.TheVariants.{Mark};
 
 use crate::ticks::Ticks;
 use crate::watch::Watch;
@@ -37,6 +38,7 @@ impl<'d, 'r, L: DeskLedger, R: Wait + time::Clock> Steps for Timekeeper<'d, 'r, 
     fn next(&mut self, done: bool) -> Option<Step>
         ensures step { IfSome result (λ step. IsDue (Some self.old.clock.left) (step_event step)) }
         ensures owed { self.new.clock.left ≡ self.old.clock.left }
+        ensures marked { 0 < self.old.clock.left → result ≡ Some Mark }
         ensures goes_on { done ≡ false → IsSome result }
     {
         let done = done && !self.watch.owes_markers();
