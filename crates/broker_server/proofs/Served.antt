@@ -38,7 +38,7 @@ module _ {A E : Type 0} (settings : Settings) (old new : Option (List ℕ)) (tex
     left = wrote.left;
     split = append-nil (listening_line address) ∙ (sym is ∙ wrote.split);
     grew = wrote.grew;
-    all = inr refl;
+    all = inr (refl, inl refl);
   })
 
 -- a text of which nothing is left stands written
@@ -47,7 +47,7 @@ whole old new text r wrote none = subst (Appends old new) (sym (wrote.split ∙ 
 
 -- both lines, or the first and a front of the last
 pub both_said : {A B E F : Type 0} (settings : Settings) (old mid new : Option (List ℕ)) (first last address : List ℕ) (r : Result A E) (s : Result B F) (status : ℕ) → first ≡ listening_line address
-    → (one : Wrote old mid first r) → one.left ≡ [] → (two : Wrote mid new last s) → ((two.left ≡ []) × IsLast settings status last) ⊎ (status ≡ 1) → Serves settings old new status
+    → (one : Wrote old mid first r) → one.left ≡ [] → (two : Wrote mid new last s) → ((two.left ≡ []) × IsLast settings status last) ⊎ ((status ≡ 1) × ((last ≡ []) ⊎ ((due : ℕ) × IsLast settings due last))) → Serves settings old new status
 both_said settings old mid new first last address r s status is one none two all = inr (record {
   address = address;
   last = last;

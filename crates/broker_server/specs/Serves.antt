@@ -22,7 +22,7 @@ pub record IsUnbegun (old new : Option (List ℕ)) (status : ℕ) : Type 0 where
   pub grew : Appends old new done
   pub failed : status ≡ 1
 
--- it printed where it listens and a last line, which is that of the status; or a front of such a text, with status 1
+-- it printed where it listens and a last line, which is that of the status; or a front of these, or of the first alone, with status 1
 pub record Served (settings : Settings) (old new : Option (List ℕ)) (status : ℕ) : Type 0 where
   pub address : List ℕ
   pub last : List ℕ
@@ -30,7 +30,7 @@ pub record Served (settings : Settings) (old new : Option (List ℕ)) (status : 
   pub left : List ℕ
   pub split : listening_line address ++ last ≡ done ++ left
   pub grew : Appends old new done
-  pub all : ((left ≡ []) × IsLast settings status last) ⊎ (status ≡ 1)
+  pub all : ((left ≡ []) × IsLast settings status last) ⊎ ((status ≡ 1) × ((last ≡ []) ⊎ ((due : ℕ) × IsLast settings due last)))
 
 abbrev pub Serves : Settings → Option (List ℕ) → Option (List ℕ) → ℕ → Type 0
 Serves settings old new status = IsUnbegun old new status ⊎ Served settings old new status

@@ -16,4 +16,5 @@ returns-in-Ok-write_whole-2 g c =
 
 pub returns : goal.returns
 returns g c =
-    both_said c.args.core.settings _ _ _ _ _ c.in-Ok.ensures.0 _ _ _ (c.as_bytes-2.ensures.value ∙ c.in-Ok.ensures.1) c.in-Ok-write_whole.ensures c.in-Ok-write_whole.ensures.all c.write_whole-3.ensures (inr refl)
+    both_said c.args.core.settings _ _ _ _ _ c.in-Ok.ensures.0 _ _ _ (c.as_bytes-2.ensures.value ∙ c.in-Ok.ensures.1) c.in-Ok-write_whole.ensures c.in-Ok-write_whole.ensures.all c.write_whole-3.ensures
+    (inr (refl, inr (c.in-Some.status, subst (IsLast c.args.core.settings c.in-Some.status) (sym c.as_bytes-3.ensures.value) (c.in-Some.ensures c.args.core.settings c.serve_told-outcome.ensures))))
