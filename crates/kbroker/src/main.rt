@@ -1,6 +1,8 @@
 //! The broker's program.
 #![tactic(auto)]
 
+ghost use Rattle.std.specs.Prelude.{◌≡◌, [], IfOk};
+
 mod awaited;
 
 use crate::awaited::Awaited;
@@ -231,6 +233,44 @@ fn fail_to_open<W: Write, E: Write>(
     fail_by(alloc, writer, errors, "open failed\n", path, why, error)
 }
 
+/// Opens a core with the settings that the input of this name gives, whose tables hash by `hasher`. The error is the exit status;
+/// then `writer` and `errors` tell why, as far as they can be written.
+fn open_named<R: Read + Drop, W: Write, E: Write>(
+    alloc: Global,
+    hasher: RandomState,
+    name: &str,
+    reader: R,
+    writer: &mut W,
+    errors: &mut E,
+) -> Result<Opened, u8>
+    ensures { IfOk result (λ opened. opened.core.trail ≡ []) }
+{
+    let mut reader = Noted::new(reader);
+    let opened = open_and_explain(alloc, hasher, &mut reader, writer, errors);
+    if opened.is_err() {
+        explain_read(alloc, errors, name, &reader);
+    }
+    opened
+}
+
+/// Listens on an address. The error is the exit status, 1; then `writer` and `errors` tell why, as far as they can be written.
+fn listen_on<T: Net<Listener = TcpListener, Stream = TcpStream>, W: Write, E: Write>(
+    rt: &T,
+    alloc: Global,
+    address: &str,
+    writer: &mut W,
+    errors: &mut E,
+) -> Result<TcpListener, u8> {
+    match TcpListener::bind(rt, address) {
+        Ok(listener) => Ok(listener),
+        Err(error) => {
+            let why = "the address can't be listened on";
+            let line = "listen failed\n";
+            Err(fail_by(alloc, writer, errors, line, address, why, &error))
+        }
+    }
+}
+
 /// Opens a broker with the settings that `reader` gives, listens, and serves connections, by the clock or as lines steer it.
 /// Gives the exit status: 1 also where it never comes to serve; then a line on `writer`, a sentence on `errors`, or both tell of
 /// it, as far as they can be written.
@@ -256,51 +296,27 @@ fn serve_connections<
     mut errors: E,
 ) -> u8 {
     let Ok(hasher) = RandomState::new(rt) else {
-        return fail(
-            alloc,
-            writer,
-            &mut errors,
-            "",
-            "random bytes",
-            "the system gives none, by which names are hashed",
-        );
+        let why = "the system gives none, by which names are hashed";
+        return fail(alloc, writer, &mut errors, "", "random bytes", why);
     };
-    let mut reader = Noted::new(reader);
+    let name = serving.settings.unwrap_or(STANDARD_INPUT);
     let Opened {
         core,
         users,
         bindings,
-    } = match open_and_explain(alloc, hasher, &mut reader, writer, &mut errors) {
+    } = match open_named(alloc, hasher, name, reader, writer, &mut errors) {
         Ok(opened) => opened,
-        Err(status) => {
-            let name = serving.settings.unwrap_or(STANDARD_INPUT);
-            explain_read(alloc, &mut errors, name, &reader);
-            return status;
-        }
+        Err(status) => return status,
     };
-    let listener = match TcpListener::bind(rt, serving.listen) {
+    let listener = match listen_on(rt, alloc, serving.listen, writer, &mut errors) {
         Ok(listener) => listener,
-        Err(error) => {
-            return fail_by(
-                alloc,
-                writer,
-                &mut errors,
-                "listen failed\n",
-                serving.listen,
-                "the address can't be listened on",
-                &error,
-            );
-        }
+        Err(status) => return status,
     };
-    let options = options_of(
-        serving,
-        bindings,
-        serving.log_times || !errors.is_terminal(),
-    );
+    let log_times = serving.log_times || !errors.is_terminal();
     let server = Server {
         listener: &listener,
         users: &users,
-        options,
+        options: options_of(serving, bindings, log_times),
         steering,
     };
     serve(rt, alloc, core, server, writer, errors)
