@@ -8,8 +8,8 @@
         broker.advance(1_000)          # it goes on by a second
         broker.mark()                  # one marker is written, and `marks` writes all that are pending
 
-`ClockedKbroker` keeps its time itself, and takes so many connections. The settings are a TOML text. Where they don't say so,
-`node_id`, `host` and `port` are put before them.
+`ClockedKbroker` keeps its time itself, and takes so many connections. The settings are a TOML text. Each of `node_id`, `host` and
+`port` that they don't have is put before them; where that is all three, Metadata tells `broker.address`.
 
 The program is the one that is named, or the one of the environment's KBROKER, or `kbroker` on the path.
 """
@@ -17,16 +17,16 @@ The program is the one that is named, or the one of the environment's KBROKER, o
 import contextlib
 import os
 import re
-import select
 import socket
 import subprocess
 import tempfile
+import threading
 from typing import NamedTuple
 from urllib.parse import unquote
 
 ATTEMPTS = 5
 PORT_TAKEN = "listen failed\n"  # by somebody else, since it was found free
-STARTS_WITHIN = 60  # seconds, until it says its first line
+STARTS_WITHIN = ANSWERS_WITHIN = 60  # seconds, until it says its first line, and the next one of an answer
 LISTENING = re.compile(r"listening on (\S+)\n")
 LAST = re.compile(r"sessions (\d+) events (\d+) refusals (\d+)\n")
 GRACE = 5  # seconds, for which a client is waited for at the end
@@ -38,6 +38,8 @@ STARTED = re.compile(r"kbroker: (?:version \S+ as node \d+: |warning: clients ar
 REQUESTS = re.compile(r"kbroker: requests (\d+), ticks (\d+), marks (\d+)(?:; (.+))?")
 # A connection that was open for so long after the end that it was closed.
 CLOSED_LATE = re.compile(r"kbroker: session (\d+) is closed, since it was still open \d+ s after the stop")
+# The first line of a table of the settings, after which no key stands outside a table.
+TABLE = re.compile(r"^[ \t]*\[", re.M)
 AT_LINE = re.compile(r"(kbroker: settings: TOML parse error at line )(\d+)")
 # What is told where as many connections were taken as are served.
 USED_UP = "kbroker: no more connections are taken, since --connections is {}"
@@ -45,7 +47,8 @@ TICKS = os.sysconf("SC_CLK_TCK")
 
 
 class Moment(NamedTuple):
-    """What came of a tick: the broker's moment, the transactional ids whose time was over, and how many markers are pending."""
+    """What came of a tick: the broker's moment in milliseconds, the transactional ids whose time was over, and how many markers
+    are pending."""
 
     moment: int
     aborted: tuple
@@ -53,7 +56,8 @@ class Moment(NamedTuple):
 
 
 class Marker(NamedTuple):
-    """A marker that was written: to a partition of a topic, or for a group, which has no index."""
+    """A marker that was written: its outcome, `commit` or `abort`, its pair, the kind of what it was written to, `topic` or `group`,
+    of which a group has no index, and how many markers are pending."""
 
     outcome: str
     producer: int
@@ -93,7 +97,8 @@ class Group(NamedTuple):
 
 
 class State(NamedTuple):
-    """How things stand: partitions by topic and index, transactions by id, groups by name, and the length of the trail."""
+    """How things stand: the moment in milliseconds, how many markers are pending, partitions by topic and index, transactions by
+    id, groups by name, and the length of the trail."""
 
     moment: int
     owed: int
@@ -112,7 +117,7 @@ class Settled(NamedTuple):
 
 
 class BrokerFailed(Exception):
-    """The broker didn't start, or didn't end as it should."""
+    """The broker didn't start, didn't answer a line in time, or didn't end as it should."""
 
 
 class NotTaken(Exception):
@@ -125,7 +130,7 @@ def program_of_environment():
 
 
 def free_port(host):
-    """A port that was free just now."""
+    """A port of an IPv4 address that was free just now."""
     with socket.socket() as it:
         it.bind((host, 0))
         return it.getsockname()[1]
@@ -134,6 +139,11 @@ def free_port(host):
 def without_stamps(errors):
     """What was told on standard error, without the time and the level that its lines may begin with."""
     return STAMP.sub("", errors)
+
+
+def has_key(settings, key):
+    """Whether settings have a key outside their tables."""
+    return bool(re.search(rf"^[ \t]*{key}[ \t]*=", TABLE.split(settings, 1)[0], re.M))
 
 
 def and_tells(lines):
@@ -183,11 +193,13 @@ class BrokerProcess:
     connections = None  # after which it ends, where that is said
 
     def __init__(self, settings, program=None, host="127.0.0.1", workers=4, more=(), errors=None):
-        """Its standard error goes to a file, or to `errors`: a pipe, `subprocess.PIPE`, is read once its end is waited for."""
+        """It listens at an IPv4 address. Its standard error goes to a file, or to `errors`: a pipe, `subprocess.PIPE`, is read once
+        its end is waited for."""
         self.settings, self.program, self.host, self.workers = settings, program or program_of_environment(), host, workers
         self.more, self.errors = more, errors
         self.process = self.folder = self.file = self.address = None
         self.added = 0
+        self.was_ended = False  # by whoever started it, who knows then what came of it
 
     def __enter__(self):
         self.folder = tempfile.TemporaryDirectory()
@@ -215,14 +227,14 @@ class BrokerProcess:
 
     def start(self):
         """Starts it, and gives its first line."""
-        listens, settings = f"{self.host}:0", self.settings
-        if not re.search("^node_id *=", settings, re.M):
-            port = free_port(self.host)
-            added = f'node_id = 1\nhost = "{self.host}"\nport = {port}\n'
-            self.added, listens, settings = added.count("\n"), f"{self.host}:{port}", added + settings
+        self.was_ended = False
+        port = 0 if has_key(self.settings, "port") else free_port(self.host)
+        own = {"node_id": 1, "host": f'"{self.host}"', "port": port}
+        added = [f"{key} = {value}\n" for key, value in own.items() if not has_key(self.settings, key)]
+        self.added, listens = len(added), f"{self.host}:{port}"
         path = os.path.join(self.folder.name, "settings.toml")
         with open(path, "w", encoding="utf-8") as it:
-            it.write(settings)
+            it.write("".join(added) + self.settings)
         self.file = None if self.errors else tempfile.TemporaryFile()
         with open(path, encoding="utf-8") as given:
             words, stdin = self.words(given)
@@ -230,13 +242,29 @@ class BrokerProcess:
             pipes = {"stdin": stdin, "stdout": subprocess.PIPE, "stderr": self.errors or self.file}
             coded = {"encoding": "utf-8", "errors": "surrogateescape"}
             self.process = subprocess.Popen([self.program, *words], **pipes, **coded)
-        if not select.select([self.process.stdout], [], [], STARTS_WITHIN)[0]:
-            raise BrokerFailed(f"the broker says nothing within {STARTS_WITHIN} seconds")
-        return self.process.stdout.readline()
+        return self.read_line(STARTS_WITHIN)
+
+    def read_line(self, within):
+        """The next line of standard output, or nothing where that has ended. A broker that takes more seconds for it is killed."""
+        is_late = threading.Event()
+
+        def give_up():
+            is_late.set()
+            self.process.kill()
+
+        timer = threading.Timer(within, give_up)
+        timer.start()
+        try:
+            line = self.process.stdout.readline()
+        finally:
+            timer.cancel()
+        if is_late.is_set():
+            raise BrokerFailed(f"the broker says nothing within {within} seconds, {and_tells(self.told())}")
+        return line
 
     def kill(self):
         """Ends it at once, whatever it does."""
-        streams = [self.file]
+        self.was_ended, streams = True, [self.file]
         if self.process is not None:
             if self.process.poll() is None:
                 self.process.kill()
@@ -265,13 +293,45 @@ class BrokerProcess:
 
     def told(self):
         """The whole lines of standard error so far, where it is a file."""
-        if not self.file:
+        if not self.file or self.file.closed:
             return []
-        so_far = os.pread(self.file.fileno(), 1 << 20, 0).decode(errors="replace")
+        size = os.fstat(self.file.fileno()).st_size
+        so_far = os.pread(self.file.fileno(), size, 0).decode(errors="replace")
         return self.lines_of(so_far[: so_far.rfind("\n") + 1])
 
+    def hand_in(self, line):
+        """Hands in a line of standard input. That the broker has ended is told by the answer, which doesn't come."""
+        with contextlib.suppress(BrokenPipeError):
+            os.write(self.process.stdin.fileno(), f"{line}\n".encode(errors="surrogateescape"))
+
+    def heard(self):
+        """The next line of an answer."""
+        line = "" if self.was_ended else self.read_line(ANSWERS_WITHIN)
+        if not line:
+            raise EOFError(f"the broker has ended, {and_tells(self.told())}")
+        line = line.rstrip("\n")
+        if line.startswith("stop "):
+            raise NotTaken(line)
+        return line
+
+    def say(self, line):
+        """Hands in a line, and gives the first line of the answer."""
+        if not self.was_ended:
+            self.hand_in(line)
+        return self.heard()
+
+    def lines(self, said, last):
+        """Hands in a line, and gives the lines of the answer up to the last, which begins with a word, and that word's number."""
+        found, line = [], self.say(said)
+        while not line.startswith(last + " "):
+            found.append(line)
+            line = self.heard()
+        return found, int(line.rpartition(" ")[2])
+
     def wait(self, line=None, timeout=30):
-        """Waits for its end, and gives its status, what it said last, and what it said on standard error, if that comes here."""
+        """Waits so many seconds for its end, after a last line if there is one, and gives its status, what it said last, and what it
+        said on standard error, if that comes here."""
+        self.was_ended = True
         said, told = self.process.communicate(line, timeout=timeout)
         if self.file:
             self.file.seek(0)
@@ -279,7 +339,7 @@ class BrokerProcess:
         return self.process.returncode, said, told or ""
 
     def settled(self, line=None, timeout=30):
-        """Waits for its end, and gives what it did, and the lines of standard error."""
+        """Waits for its end as `wait` does, and gives what it did, and the lines of standard error."""
         try:
             status, said, errors = self.wait(line, timeout)
         except subprocess.TimeoutExpired:
@@ -326,37 +386,13 @@ class Kbroker(BrokerProcess):
 
     def __exit__(self, kind, *_):
         try:
-            if kind is None and self.process.poll() is None:
+            if kind is None and not self.was_ended:
                 self.end()
         finally:
             self.close()
 
     def words(self, settings):
         return ["--control", "--grace", str(GRACE), "--settings", settings.name], subprocess.PIPE
-
-    def say(self, line):
-        """Hands in a line, and gives the first line of the answer."""
-        self.process.stdin.write(line + "\n")
-        self.process.stdin.flush()
-        return self.heard()
-
-    def heard(self):
-        """The next line of an answer."""
-        line = self.process.stdout.readline()
-        if not line:
-            raise EOFError(f"the broker has ended, and says {self.told()}")
-        line = line.rstrip("\n")
-        if line.startswith("stop "):
-            raise NotTaken(line)
-        return line
-
-    def lines(self, said, last):
-        """Hands in a line, and gives the lines of the answer up to the last, which begins with a word, and that word's number."""
-        found, line = [], self.say(said)
-        while not line.startswith(last + " "):
-            found.append(line)
-            line = self.heard()
-        return found, int(line.rpartition(" ")[2])
 
     def tick(self, moment):
         """The clock shows this moment, in milliseconds: a group's members and transactions whose time is over go."""
@@ -387,8 +423,8 @@ class Kbroker(BrokerProcess):
 
     def end(self, timeout=30):
         """Takes no more connections, closes those that are open once what they have asked is answered, and gives what the settled
-        broker did. A client that reads no answers is waited for five seconds. Where the broker doesn't end as it should, the
-        exception names the sessions that it had to close so."""
+        broker did. A client that reads no answers is waited for five seconds. Where the broker doesn't end as it should, or not
+        within so many seconds, the exception names the sessions that it had to close so."""
         return self.settled("end\n", timeout)[0]
 
 
@@ -411,7 +447,7 @@ def answers_in(printed):
 
 
 def replay(script, program=None, timeout=60):
-    """What is printed for each line of a script, which stands after its settings and a line `---`."""
+    """What is printed, within so many seconds, for each line of a script, which stands after its settings and a line `---`."""
     words = [program or program_of_environment(), "replay"]
     ran = subprocess.run(words, input=script.encode(), capture_output=True, timeout=timeout)
     if ran.returncode:

@@ -26,7 +26,7 @@ from kbroker_testing.broker import (
     without_stamps,
 )
 from kbroker_testing.protocol import Connection, logged_in, request_digits
-from tests.support import OF_ROOT, TOP, topic, user
+from tests.support import OF_ROOT, TOP, acl, topic, user
 
 OWN = 'supers = ["User:root"]\n' + user("root", "toor") + topic("b")
 # What stands on standard error, of which a test is told the second and the fourth line.
@@ -40,11 +40,12 @@ TOLD = [
     "unmatched WRITE Topic b User:ann 127.0.0.1",
     "kbroker: the clock stops, so no transaction ends any more: there is not enough memory",
 ]
+LISTENS = "echo listening on 127.0.0.1:9092"
 # A program that tells of two connections which it had to close, and then ends as it shouldn't, or not at all.
 LATE = "kbroker: session {} is closed, since it was still open 5 s after the stop"
 HELD_UP = f"""
     #!/bin/sh
-    echo listening on 127.0.0.1:9092
+    {LISTENS}
     read -r line
     echo "2026-11-29T03:50:45.123Z INFO {LATE.format(3)}" >&2
     echo "2026-11-29T03:50:45.123Z INFO {LATE.format(11)}" >&2
@@ -86,6 +87,12 @@ class Lines(unittest.TestCase):
 
 
 class Brokers(unittest.TestCase):
+    def assert_ended(self, broker):
+        """Whoever steers it is told so, each time."""
+        for _ in range(2):
+            with self.assertRaisesRegex(EOFError, "the broker has ended"):
+                broker.tick(1)
+
     def test_metadata_tells_the_address(self):
         """Of a broker whose settings don't say where it is."""
         for broker in (Kbroker(OWN), ClockedKbroker(OWN, more=("--librdkafka",))):
@@ -122,6 +129,16 @@ class Brokers(unittest.TestCase):
                 with Kbroker(settings):
                     self.fail("it listens")
 
+    def test_settings_that_say_in_part_where_it_is(self):
+        """The rest is put before them. An ACL's host is another one."""
+        rows = (("port = 9093\n", ("127.0.0.1", 9093)), ('host = "there"\n', ("there", None)), ("node_id = 2\n", ("127.0.0.1", None)))
+        for settings, (host, port) in rows:
+            with self.subTest(settings=settings), Kbroker(settings + OWN + acl()) as broker:
+                with logged_in(broker.address) as client:
+                    [told] = client.ask("Metadata", topics=None)["brokers"]
+                own = int(broker.address.rpartition(":")[2])
+                self.assertEqual((told["host"], told["port"]), (host, port or own))
+
     def test_a_clocked_broker_ends_after_its_connections(self):
         with ClockedKbroker(OF_ROOT, connections=2) as broker:
             for _ in range(2):
@@ -135,11 +152,21 @@ class Brokers(unittest.TestCase):
                 broker.kill()
                 with self.assertRaises((EOFError, ConnectionError)):
                     client.ask("ApiVersions")
-        with self.assertRaises((EOFError, ValueError, OSError)):
-            with Kbroker(OWN) as broker:
-                broker.process.kill()
-                broker.process.wait()
-                broker.tick(1)
+            self.assert_ended(broker)
+
+    def test_a_broker_that_was_ended(self):
+        with Kbroker(OWN) as broker:
+            broker.end()
+            self.assert_ended(broker)
+
+    def test_a_broker_that_has_died(self):
+        """That is told at the end, whether something was asked of it afterwards or nothing."""
+        for asks in (self.assert_ended, lambda _: None):
+            with self.assertRaisesRegex(BrokerFailed, "status -9"):
+                with Kbroker(OWN) as broker:
+                    broker.process.kill()
+                    broker.process.wait()
+                    asks(broker)
 
     def test_books_that_cannot_be_settled(self):
         with self.assertRaisesRegex(BrokerFailed, "status -9"):
@@ -169,12 +196,28 @@ class Brokers(unittest.TestCase):
         path.chmod(0o700)
         return path
 
-    def test_a_program_that_says_nothing(self):
-        silent = self.program_of("#!/bin/sh\nexec sleep 60\n")
+    def test_a_program_that_says_no_line(self):
+        """It says nothing, or no end of its first line."""
         self.enterContext(mock.patch.object(broker_module, "STARTS_WITHIN", 0.2))
-        with self.assertRaisesRegex(BrokerFailed, "says nothing"):
-            with ClockedKbroker(OF_ROOT, program=silent):
-                self.fail("it listens")
+        for said in ("", "listening"):
+            silent = self.program_of(f"#!/bin/sh\nprintf '{said}'\nexec sleep 60\n")
+            with self.subTest(said=said), self.assertRaisesRegex(BrokerFailed, "says nothing within 0.2 seconds"):
+                with ClockedKbroker(OF_ROOT, program=silent):
+                    self.fail("it listens")
+
+    def test_an_answer_that_does_not_come(self):
+        """Whoever waits for it is told so, and what the broker told."""
+        hangs = self.program_of(f"#!/bin/sh\necho hangs >&2\n{LISTENS}\nexec sleep 60\n")
+        self.enterContext(mock.patch.object(broker_module, "ANSWERS_WITHIN", 0.2))
+        with self.assertRaisesRegex(BrokerFailed, r"says nothing within 0.2 seconds, and tells \['hangs'\]$"):
+            with Kbroker(OWN, program=hangs) as broker:
+                broker.state()
+
+    def test_all_lines_so_far(self):
+        """However many they are."""
+        talks = self.program_of(f"#!/bin/sh\nyes {'a' * 99} | head -n 12345 >&2\n{LISTENS}\nexec sleep 60\n")
+        with ClockedKbroker(OF_ROOT, program=talks) as broker:
+            self.assertEqual(broker.told(), ["a" * 99] * 12345)
 
     def test_connections_that_hold_up_the_end(self):
         """Where a broker doesn't end well, the sessions are named that it had to close, if it had to."""
@@ -189,7 +232,7 @@ class Brokers(unittest.TestCase):
                 broker.end(timeout=4)
             broker.kill()
         with self.assertRaisesRegex(BrokerFailed, r"says '', and tells \[\]$"):
-            with Kbroker(OWN, program=self.program_of("#!/bin/sh\necho listening on 127.0.0.1:9092\nexit 1\n")) as broker:
+            with Kbroker(OWN, program=self.program_of(f"#!/bin/sh\n{LISTENS}\nexit 1\n")) as broker:
                 broker.process.wait()
                 broker.settled()
 
