@@ -47,6 +47,18 @@ OF_SUPER = TOP + 'supers = ["User:root"]\n'
 # The settings of a broker whose one user is root.
 OF_ROOT = OF_SUPER + user("root", "toor")
 
+# ---- a server that ends by itself
+
+LISTEN = ("--listen", "127.0.0.1:0")
+
+
+def run_server(words, settings="", **streams):
+    """The status of a server that serves nobody, and what it said on standard output and on standard error."""
+    given = {"input": settings.encode(), "stdout": subprocess.PIPE, "stderr": subprocess.PIPE, "timeout": 30, **streams}
+    ran = subprocess.run([PROGRAM, "serve", *words], **given)
+    return ran.returncode, (ran.stdout or b"").decode(), ran.stderr.decode()
+
+
 # ---- what is asked
 
 

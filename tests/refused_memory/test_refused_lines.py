@@ -8,10 +8,10 @@ import re
 import subprocess
 
 from tests.refused_memory.refusing import RefusingCase
-from tests.support import OF_ROOT, PROGRAM, topic
+from tests.support import LISTEN, OF_ROOT, PROGRAM, topic
 
 LINES = ("tick 1", "mark", "state", "marks", "audit", "more", "tick 70000", "state", "end")
-WORDS = ("serve", "--listen", "127.0.0.1:0", "--workers", "1", "--control", "--settings")
+WORDS = ("serve", *LISTEN, "--workers", "1", "--control", "--settings")
 FIRST = re.compile(r"listening on \S+")
 LAST = re.compile(r"sessions 0 events \d+ refusals 0")
 ENDS_EARLY = (

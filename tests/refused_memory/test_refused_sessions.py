@@ -22,7 +22,7 @@ from kbroker_testing.broker import without_stamps
 from tests.refused_memory import refusing
 from tests.server import session_bytes
 from tests.server.told import ALLOCATION_FAILED, DOWN
-from tests.support import OF_ROOT, PROGRAM, of_b, topic
+from tests.support import LISTEN, OF_ROOT, PROGRAM, of_b, topic
 
 SETTINGS = OF_ROOT + topic("b")
 
@@ -33,7 +33,7 @@ WRITTEN = session_bytes.HANDSHAKE_TOLD + session_bytes.LOGIN_TOLD + session_byte
 CAME = re.compile(r"receipts (\d+)\nwritten ([0-9a-f]*)\nend (\S+)\n")
 FOR_MEMORY = ("NoMemory", "Stopped(NoMemory)")
 
-WORDS = ("serve", "--listen", "127.0.0.1:0", "--workers", "1", "--connections", "2")
+WORDS = ("serve", *LISTEN, "--workers", "1", "--connections", "2")
 FIRST = re.compile(rb"listening on (\S+)\n")
 LAST = re.compile(rb"sessions \d+ events \d+ refusals 0\n")
 ENDS_EARLY = (

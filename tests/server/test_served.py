@@ -14,19 +14,18 @@ from kbroker_testing.broker import REQUESTS, ClockedKbroker, without_stamps
 from kbroker_testing.codes import Code
 from kbroker_testing.protocol import Connection, batch, committed, logged_in, partition_of, request_frame
 from tests.server.session_bytes import framed
-from tests.server.told import CUT, FULL, LOGS_IN, NEARLY_FULL, NO_LOGIN, READ_FAILED, WAITED, WAITING
+from tests.server.told import CLOCK_STOPS, CUT, FULL, LOGS_IN, NEARLY_FULL, NO_LOGIN, READ_FAILED, WAITED, WAITING
 from tests.server.told import asked, counted, of_nobody, of_user, text_of
-from tests.support import COLLIDING, LONGEST_FRAME, OF_SUPER, PROGRAM, TooLate, acl, connect, of_b, topic, user, wait_until
+from tests.support import COLLIDING, LISTEN, LONGEST_FRAME, OF_SUPER, TOP, TooLate
+from tests.support import acl, connect, of_b, run_server, topic, user, wait_until
 
 USERS = user("root", "toor") + user("ann", "pw")
 TOPIC = topic("b", 2)
 SETTINGS = OF_SUPER + USERS + TOPIC + acl(host="127.0.0.1")
-LISTEN = ("--listen", "127.0.0.1:0")
 ROOM = 16 << 20  # bytes that peers may cost the broker
 
-# What is told of lines for which there was no room, and of a clock that stops.
+# What is told of lines for which there was no room.
 LEFT_OUT = re.compile(r"kbroker: lines left out, since nobody read them in time: (\d+)")
-STOPS = "kbroker: the clock stops, so no transaction ends any more: {}"
 
 # The words after `serve` that are not understood.
 MISUSED = (
@@ -59,12 +58,6 @@ MISUSED = (
     LISTEN + ("--audit",),
     LISTEN + ("--replay",),
 )
-
-
-def run(words, settings=SETTINGS):
-    """The status of a run that serves nobody, and what it printed on standard output and on standard error."""
-    ran = subprocess.run([PROGRAM, "serve", *words], input=settings.encode(), capture_output=True, timeout=30)
-    return ran.returncode, ran.stdout.decode(), ran.stderr.decode()
 
 
 def last_offset(broker, isolation):
@@ -134,13 +127,13 @@ class CommandLines(unittest.TestCase):
         """Each misuse is status 2, a sentence on standard error, and nothing else."""
         for words in MISUSED:
             with self.subTest(words=words):
-                status, said, why = run(words)
+                status, said, why = run_server(words, SETTINGS)
                 self.assertEqual((status, said, bool(why)), (2, "", True))
 
     def test_an_address_in_use(self):
         with socket.create_server(("127.0.0.1", 0)) as taken:
             address = f"127.0.0.1:{taken.getsockname()[1]}"
-            status, said, why = run(("--listen", address))
+            status, said, why = run_server(("--listen", address), SETTINGS)
         self.assertEqual((status, said), (1, "listen failed\n"), why)
         self.assertIn(address, why)
         self.assertTrue(why.endswith("address in use\n"), why)
@@ -148,7 +141,7 @@ class CommandLines(unittest.TestCase):
     def test_settings_with_a_fault(self):
         for settings, fault in (("node_id = ", "Toml"), (OF_SUPER + USERS + USERS, "User")):
             with self.subTest(fault=fault):
-                status, said, why = run(LISTEN, settings)
+                status, said, why = run_server(LISTEN, settings)
                 self.assertEqual((status, said, bool(why)), (1, f"settings refused: {fault}\n", True))
 
 
@@ -157,13 +150,13 @@ class Apis(ServedCase):
 
     def test_what_settings_are_unlikely_to_mean_is_told(self):
         lines = [
-            'node_id = 1\nhost = "h"\nport = 9092\n',
+            TOP,
             """[[acl]]\nkind = "Topic"\nname = "a"\npattern = "LITERAL"\nprincipal = "User:*"\nhost = "*"
 operation = "READ"\npermission = "ALLOW"\n""",
             """[[acl]]\nkind = "Group"\nname = "g"\npattern = "LITERAL"\nprincipal = "User:ghost"\nhost = "*"
 operation = "WRITE"\npermission = "ALLOW"\n""",
         ]
-        status, _, told = run(LISTEN + ("--for", "1"), "".join(lines))
+        status, _, told = run_server(LISTEN + ("--for", "1"), "".join(lines))
         warned = [line for line in told.splitlines() if line.startswith("kbroker: settings: ")]
         self.assertEqual(status, 0)
         self.assertEqual(
@@ -424,13 +417,13 @@ class Operators(ServedCase):
         """Where the trail is full the operator is told once that the clock stops, and each session ends at its next request."""
         with ClockedKbroker(OF_SUPER + "trail_limit = 5\n" + USERS + TOPIC) as server:
             nearly = NEARLY_FULL.format(5, 5)
-            wait_until(lambda: server.told() == [nearly, STOPS.format(FULL)], "it is not told that the trail is full")
+            wait_until(lambda: server.told() == [nearly, CLOCK_STOPS.format(FULL)], "it is not told that the trail is full")
             with logged_in(server.address) as broker:
                 broker.send("Metadata", topics=None)
                 self.assert_closed(broker)
             settled, told = server.settled()
         self.assertEqual((settled.sessions, settled.events), (1, 5))
-        self.assertEqual(told, [nearly, STOPS.format(FULL), of_user(0, "root", FULL)])
+        self.assertEqual(told, [nearly, CLOCK_STOPS.format(FULL), of_user(0, "root", FULL)])
 
     def test_a_trail_that_fills_up(self):
         """The operator is told once that nine tenths of the trail's room are taken, and not before."""
@@ -440,7 +433,7 @@ class Operators(ServedCase):
             wait_until(lambda: len(server.told()) > 1, "it is not told that the trail is full")
             logged_in(server.address).close()
             _, told = server.settled()
-        self.assertEqual(told, [NEARLY_FULL.format(27, 30), STOPS.format(FULL)])
+        self.assertEqual(told, [NEARLY_FULL.format(27, 30), CLOCK_STOPS.format(FULL)])
 
     def test_connections_that_wait(self):
         """Where all workers are taken for a second the operator is told, once, and again when the one that waited is served."""

@@ -8,7 +8,7 @@ import unittest
 from kbroker_testing.broker import Group, Kbroker, Marker, Moment, NotTaken, Partition, Settled, Transaction
 from kbroker_testing.codes import Code
 from kbroker_testing.protocol import batch, committed, in_partition, logged_in, partition_of, partitions_of
-from tests.support import PROGRAM, TOP, topic, user, wait_until
+from tests.support import LISTEN, TOP, run_server, topic, user, wait_until
 
 TIMEOUT = 60_000
 PARTITIONS = (("debits", 0), ("credits", 0))
@@ -174,8 +174,7 @@ class Steered(unittest.TestCase):
         wait_until(lambda: self.broker.told() == told, "it isn't told which lines there are")
 
     def test_open_connections_are_told(self):
-        self.broker.process.stdin.write("end\n")
-        self.broker.process.stdin.flush()
+        self.broker.hand_in("end")
         wait_until(lambda: self.broker.told() == [OPEN.format(1)], "it isn't told that a connection is open")
         self.bank.close()
         self.assertEqual(self.broker.settled(), (Settled(1, 0, 0), [OPEN.format(1)]))
@@ -194,8 +193,7 @@ class Ends(unittest.TestCase):
         with Unhurried(SETTINGS) as broker:
             bank = Bank(broker.address)
             self.addCleanup(bank.close)
-            broker.process.stdin.write("end\n")
-            broker.process.stdin.flush()
+            broker.hand_in("end")
             wait_until(lambda: broker.told() == [OPEN.format(1)], "it isn't told that a connection is open")
             self.assertEqual(bank.begin(), Code.NONE)
             bank.close()
@@ -217,22 +215,17 @@ class Ends(unittest.TestCase):
             self.assertEqual(broker.marks(), [])
             self.assertEqual(broker.end(), Settled(0, 2, 0))
 
-    def run_once(self, *words):
-        ran = subprocess.run([PROGRAM, "serve", *words], input=b"", capture_output=True, timeout=30)
-        return ran.returncode, ran.stdout.decode(), ran.stderr.decode()
-
     def test_words_that_are_not_understood(self):
         with tempfile.NamedTemporaryFile("w") as it:
             it.write(TOP)
             it.flush()
-            listen = ("--listen", "127.0.0.1:0")
             for words in (("--control",), ("--control", "--settings", it.name, "--audit", "-"), ("--control=1",)):
-                status, said, why = self.run_once(*listen, *words)
+                status, said, why = run_server((*LISTEN, *words))
                 self.assertEqual((status, said), (2, ""), words)
                 self.assertIn("--control", why)
-            status, said, why = self.run_once(*listen, "--settings", it.name + ".none")
+            status, said, why = run_server((*LISTEN, "--settings", it.name + ".none"))
             self.assertEqual((status, said), (1, "open failed\n"))
             self.assertIn(it.name, why)
-            status, said, _ = self.run_once(*listen, "--settings", it.name, "--for", "1")
+            status, said, _ = run_server((*LISTEN, "--settings", it.name, "--for", "1"))
             self.assertEqual(status, 0)
             self.assertRegex(said, r"^listening on \S+\nsessions 0 events \d+ refusals 0\n$")

@@ -20,10 +20,10 @@ from pathlib import Path
 from kbroker_testing.broker import LAST, BrokerProcess, ClockedKbroker
 from kbroker_testing.codes import Code
 from kbroker_testing.protocol import batch, logged_in, partition_of, request_frame
-from tests.server.told import CLOSED, CUT, FULL, WRITE_FAILED, of_nobody, of_user, without_waits
-from tests.support import OF_ROOT, connect, is_read, of_b, topic, wait_until
+from program import ROOT
+from tests.server.told import CLOCK_STOPS, CLOSED, CUT, FULL, WRITE_FAILED, of_nobody, of_user, without_waits
+from tests.support import LISTEN, OF_ROOT, connect, is_read, of_b, topic, user, wait_until
 
-ROOT = Path(__file__).resolve().parents[2]
 SETTINGS = OF_ROOT + topic("b")
 GRACE = 5  # seconds, if nothing is said of it
 LATE = 3.5  # seconds after the grace in which the last line comes; less than GRACE, so that a needless wait for it shows
@@ -36,7 +36,6 @@ STARTED_WITHIN = 0.5  # seconds
 HELD_BACK = 0.02  # seconds without an answer; a Fetch is held back for 0.1
 ROUNDS = 20  # Fetches of which one is held back for as long as this test sees it
 FAILED = [of_user(number, "root", WRITE_FAILED) for number in (1, 2)]
-CLOCK_STOPS = "kbroker: the clock stops, so no transaction ends any more: "
 CONTROL_ALONE = ("tick 1", "mark", "marks", "stop", "")
 UNREADABLE = "kbroker: a line of standard input can't be read: there are `audit`, `state` and `end`"
 
@@ -46,23 +45,6 @@ class Stopped(BrokerProcess):
 
     def words(self, settings):
         return ["--stop-with-input", "--settings", settings.name], subprocess.PIPE
-
-    def say(self, line):
-        """Hands in a line."""
-        self.process.stdin.write(line + "\n")
-        self.process.stdin.flush()
-
-    def heard(self):
-        """The next line of an answer."""
-        return self.process.stdout.readline().rstrip("\n")
-
-    def lines(self, said, last):
-        """Hands in a line, and gives the lines of the answer up to one that begins with this word."""
-        self.say(said)
-        found = [self.heard()]
-        while not found[-1].startswith(last + " "):
-            found.append(self.heard())
-        return found
 
 
 class Wrapped(BrokerProcess):
@@ -218,9 +200,9 @@ class Inputs(StoppingCase):
     def test_a_full_trail(self):
         """The clock has stopped, and the stop is a clean one."""
         with Stopped("trail_limit = 3\n" + SETTINGS) as broker:
-            wait_until(lambda: any(it.startswith(CLOCK_STOPS) for it in broker.told()), "the clock goes on")
+            wait_until(lambda: CLOCK_STOPS.format(FULL) in broker.told(), "the clock goes on")
             settled, told = self.assert_stops(broker, 0)
-        self.assertEqual((settled.events, told[-1]), (3, CLOCK_STOPS + FULL))
+        self.assertEqual((settled.events, told[-1]), (3, CLOCK_STOPS.format(FULL)))
 
     def test_connections_that_are_used_up(self):
         """The one that is open is served until the stop."""
@@ -234,16 +216,15 @@ class Inputs(StoppingCase):
 
     def test_lines_that_ask(self):
         """`state` and `audit` are answered as by a broker that is steered, and nothing else is."""
-        with Stopped(OF_ROOT + topic("b") + '[[user]]\nname = "ann"\npassword = "p"\n') as broker:
+        with Stopped(SETTINGS + user("ann", "p")) as broker:
             for line in CONTROL_ALONE:
-                broker.say(line)
-                self.assertEqual(broker.heard(), "unreadable", line)
+                self.assertEqual(broker.say(line), "unreadable", line)
             with logged_in(broker.address, "ann", "p") as client:
                 client.ask("Produce", topics=of_b(records=batch([b"mine"])))
-            lines = broker.lines("audit", "refusals")
-            self.assertEqual(lines, ["unmatched WRITE Topic b User:ann 127.0.0.1", "refusals 1"])
-            self.assertEqual(broker.lines("audit", "refusals"), ["refusals 0"])
-            lines = broker.lines("state", "events")
+            refused = ["unmatched WRITE Topic b User:ann 127.0.0.1"]
+            self.assertEqual(broker.lines("audit", "refusals"), (refused, 1))
+            self.assertEqual(broker.lines("audit", "refusals"), ([], 0))
+            lines, _ = broker.lines("state", "events")
             self.assertRegex(lines[0], r"^moment \d+$")
             self.assertIn("partition b 0 end 0 stable 0", lines)
             settled, told = self.assert_stops(broker, 0)
@@ -359,7 +340,7 @@ class Signals(StoppingCase):
 
     def test_the_status_of_settings_that_are_refused(self):
         with Wrapped(SETTINGS) as broker:
-            words = [broker.program, "serve", "--listen", "127.0.0.1:0", "--settings", os.devnull]
+            words = [broker.program, "serve", *LISTEN, "--settings", os.devnull]
             ran = subprocess.run(words, capture_output=True, timeout=30)
         self.assertEqual((ran.returncode, ran.stdout), (1, b"settings refused: Key\n"))
 

@@ -16,6 +16,7 @@ from kbroker_testing.protocol import batch, in_partition, logged_in, partition_o
 from tests.server.session_bytes import HANDSHAKE, framed
 from tests.server.told import (
     BAD_FRAME,
+    CLOCK_STOPS,
     FULL,
     LOGS_IN,
     MALFORMED,
@@ -27,10 +28,9 @@ from tests.server.told import (
     of_user,
     text_of,
 )
-from tests.support import OF_ROOT, PROGRAM, connect, of_b, topic, user, wait_until
+from tests.support import LISTEN, OF_ROOT, TOP, connect, of_b, run_server, topic, user, wait_until
 
 SETTINGS = OF_ROOT + user("ann", "pw") + topic("b")
-LISTEN = ("--listen", "127.0.0.1:0")
 # RFC 3339: a moment in UTC, to the millisecond; its level; and the line.
 STAMPED = re.compile(r"(\d{4}-\d\d-\d\dT\d\d:\d\d:\d\d\.\d{3}Z) (INFO|WARN) (.*)")
 # An api and the number of its requests, and how many of their parts were refused.
@@ -48,13 +48,6 @@ NOT_WRITTEN = "kbroker: standard output: where the server listens can't be writt
 def moment_of(text):
     """The moment of a stamp."""
     return datetime.strptime(text, "%Y-%m-%dT%H:%M:%S.%f%z")
-
-
-def run(words, settings=SETTINGS, **streams):
-    """The status of a server that ends by itself, and what it said on standard error."""
-    given = {"input": settings.encode(), "stdout": subprocess.PIPE, "stderr": subprocess.PIPE, "timeout": 30, **streams}
-    ran = subprocess.run([PROGRAM, "serve", *words], **given)
-    return ran.returncode, ran.stderr.decode()
 
 
 def read_whole(terminal):
@@ -151,8 +144,7 @@ class Stamps(ToldCase):
                 self.assertEqual(client.input.read(), b"")
             told = broker.wait()[2]
         levels = {it[3]: it[2] for it in map(STAMPED.fullmatch, told.splitlines())}
-        stops = f"kbroker: the clock stops, so no transaction ends any more: {FULL}"
-        wanted = {NEARLY_FULL.format(5, 5): "WARN", stops: "WARN", of_user(0, "root", FULL): "INFO"}
+        wanted = {NEARLY_FULL.format(5, 5): "WARN", CLOCK_STOPS.format(FULL): "WARN", of_user(0, "root", FULL): "INFO"}
         self.assertEqual({it: levels.get(it) for it in wanted}, wanted)
 
     def on_a_terminal(self, *more):
@@ -185,11 +177,11 @@ class Stamps(ToldCase):
         for more in ((), ("--log-times",)):
             with self.subTest(more=more):
                 for words, settings in ((LISTEN, "node_id = "), (("--listen", "192.0.2.1:9092"), SETTINGS)):
-                    status, told = run((*words, *more), settings)
+                    status, _, told = run_server((*words, *more), settings)
                     self.assertEqual(status, 1)
                     self.assertTrue(told.startswith("kbroker: "), told)
                     self.assertIsNone(STAMP.search(told), told)
-                status, told = run((*LISTEN, "--for", "1", *more), 'node_id = 1\nhost = "h"\nport = 9092\n')
+                status, _, told = run_server((*LISTEN, "--for", "1", *more), TOP)
                 self.assertEqual(status, 0)
                 first, *others = told.splitlines()
                 self.assertTrue(first.startswith("kbroker: settings: warning: there is no `[[user]]`"), first)
@@ -393,4 +385,4 @@ class Foreign(ToldCase):
 class StandardOutput(unittest.TestCase):
     def test_a_first_line_that_cannot_be_written(self):
         with open("/dev/full", "wb") as full:
-            self.assertEqual(run(LISTEN, stdout=full), (1, NOT_WRITTEN))
+            self.assertEqual(run_server(LISTEN, SETTINGS, stdout=full), (1, "", NOT_WRITTEN))

@@ -18,6 +18,8 @@ OF_MORE = re.compile(r"kbroker: (\d+) more sessions, up to session (\d+): (.*)")
 # That connections wait for one of so many workers, and how many seconds the one had waited that is served then.
 WAITING = "kbroker: connections wait for a worker, since all {} are taken; see --workers"
 WAITED = "kbroker: a connection from 127.0.0.1 has waited {} s for a worker, and is served now"
+# That the clock stops, and why; and that the trail is nearly full.
+CLOCK_STOPS = "kbroker: the clock stops, so no transaction ends any more: {}"
 NEARLY_FULL = (
     "kbroker: the trail has {} of at most {} events; once it is full, each session is closed at its next request"
 )
