@@ -1,24 +1,27 @@
 """A login and a frame have a time, for the whole and not for each read.
 
 Brokers with a second for each, or with four: a connection that says nothing is closed after about that time, and one that sends
-whole requests before a login too, whether it reads the answers or not, while one that has logged in stays open. A peer that sends
-a byte of a request now and then is closed after about that time, also where the first byte of that request came together with the
-end of the one before; a request that comes slowly and in time is answered. Where one worker is held by such a peer, a client that
-waits is answered soon after.
+whole requests before a login too, whether it reads the answers or not, while one that has logged in stays open. Connections that
+say nothing and have waited for a worker as long are closed after a quarter of a second each. A peer that sends a byte of a request
+now and then is closed after about that time, also where the first byte of that request came together with the end of the one
+before; a request that comes slowly and in time is answered. Where one worker is held by such a peer, a client that waits is
+answered soon after.
 Each time the operator is told which time was over.
 """
 
+import contextlib
 import threading
 import time
 import unittest
 
 from kbroker_testing.broker import ClockedKbroker
 from kbroker_testing.protocol import logged_in, request_frame
-from tests.server.told import NOBODY, OF_SESSION, without_waits
+from tests.server.told import NOBODY, OF_SESSION, counted, text_of, without_waits
 from tests.support import OF_ROOT, connect
 
 SECOND = 1.0  # the time of a login, and of a frame
 MORE = 4  # seconds that these have where the test has to keep them itself
+WAITED = 0.25  # seconds that one has at least which has waited for a worker
 EARLY, LATE = 0.05, 5.0  # seconds before and after its end in which a connection may be closed
 DRIP = 0.2  # seconds between two bytes
 BOUND = 10  # seconds that any wait may take
@@ -85,9 +88,23 @@ class Deadlines(unittest.TestCase):
             settled, told = broker.settled()
         self.assertEqual((settled.sessions, told), (2, [told_of(1, NOBODY, "its login", MORE)]))
 
+    def test_silent_peers_that_have_waited(self):
+        """The wait for the one worker is taken off their time, of which a quarter of a second is left."""
+        silent = 9
+        with ClockedKbroker(OF_ROOT, workers=1, connections=silent, more=("--login-within", str(MORE))) as broker:
+            began = time.monotonic()
+            with contextlib.ExitStack() as stack:
+                for peer in [stack.enter_context(connect(broker.address, silent * MORE + LATE)) for _ in range(silent)]:
+                    self.assertEqual(peer.recv(1), b"", "the broker says something")
+                took = time.monotonic() - began
+            _, told = broker.settled()
+        self.assertGreater(took, MORE - EARLY + (silent - 1) * (WAITED - EARLY))
+        self.assertLess(took, MORE + (silent - 1) * WAITED + LATE)
+        self.assertEqual(counted(without_waits(told)), {text_of(told_of(0, NOBODY, "its login", MORE)): silent})
+
     def test_requests_before_a_login(self):
         """Whole requests don't make a login's time longer."""
-        with ClockedKbroker(OF_ROOT, more=("--login-within", "1")) as broker:
+        with ClockedKbroker(OF_ROOT, more=("--login-within", str(MORE))) as broker:
             began, answers = time.monotonic(), 0
             with connect(broker.address, BOUND) as peer:
                 try:
@@ -100,26 +117,27 @@ class Deadlines(unittest.TestCase):
             took = time.monotonic() - began
             _, told = broker.settled()
         self.assertTrue(answers)
-        self.assert_about(took)
-        self.assertEqual(told, [told_of(0, NOBODY, "its login")])
+        self.assert_about(took, MORE)
+        self.assertEqual(told, [told_of(0, NOBODY, "its login", MORE)])
 
     def test_answers_that_nobody_reads(self):
         """A peer that asks before a login and doesn't read isn't waited for any longer than a silent one."""
-        with ClockedKbroker(OF_ROOT, more=("--login-within", "1")) as broker:
-            began, asked, sent = time.monotonic(), versions() * 1_000, 0
+        with ClockedKbroker(OF_ROOT, more=("--login-within", str(MORE))) as broker:
+            began, asked, sent, is_full = time.monotonic(), versions() * 1_000, 0, False
             with connect(broker.address, BOUND) as peer:
                 peer.settimeout(DRIP)
                 while not broker.told() and time.monotonic() - began < BOUND:
                     try:
                         sent = (sent + peer.send(asked[sent:])) % len(asked)
                     except TimeoutError:
-                        pass
+                        is_full = True
                     except OSError:
                         break  # it is closed
                 took = time.monotonic() - began
                 _, told = broker.settled()
-        self.assert_about(took)
-        self.assertEqual(told, [told_of(0, NOBODY, "its login")])
+        self.assertTrue(is_full, "no answer had to wait")
+        self.assert_about(took, MORE)
+        self.assertEqual(told, [told_of(0, NOBODY, "its login", MORE)])
 
     def assert_cut_off_dripping(self, peer, data, began, seconds=SECOND):
         """Sends bytes one by one over a connection, which has to be closed so long after this moment."""
