@@ -1,6 +1,7 @@
 """`kbroker serve` over TCP: what it prints and how it ends, each api asked over a connection, and peers that vanish."""
 
 import re
+import select
 import socket
 import struct
 import subprocess
@@ -23,6 +24,9 @@ USERS = user("root", "toor") + user("ann", "pw")
 TOPIC = topic("b", 2)
 SETTINGS = OF_SUPER + USERS + TOPIC + acl(host="127.0.0.1")
 ROOM = 16 << 20  # bytes that peers may cost the broker
+AT_ONCE = 0.05  # seconds in which the quickest of some answers comes that isn't held back
+IDLE = 5  # seconds after which a silent peer is closed
+EARLY, LATE = 0.05, 3.5  # seconds before and after its time in which something may come
 
 # What is told of lines for which there was no room.
 LEFT_OUT = re.compile(r"kbroker: lines left out, since nobody read them in time: (\d+)")
@@ -273,26 +277,27 @@ class Librdkafka(ServedCase):
                 self.assertEqual(first, {**third, **listed})
                 self.assertEqual({key: third[key] for key in served}, served)
 
-    def seconds_of(self, broker, times, offset, max_wait, answer):
-        """What so many Fetches take, each of which is answered this code, and whether there are records."""
-        begun = time.monotonic()
-        for _ in range(times):
+    def assert_held_back(self, broker, seconds, offset, max_wait, answer):
+        """Each of ten Fetches is answered this code, and whether there are records; the quickest after so many seconds."""
+        took = []
+        for _ in range(10):
+            begun = time.monotonic()
             part = partition_of(broker.ask("Fetch", max_wait=max_wait, topics=of_b(offset=offset, max_bytes=1000)))
+            took.append(time.monotonic() - begun)
             self.assertEqual((part["error"], bool(part["records"])), answer, (offset, part))
-        return time.monotonic() - begun
+        self.assertTrue(seconds <= min(took) < seconds + AT_ONCE, (offset, max_wait, took))
 
     def test_an_empty_fetch_is_held_back(self):
         """An answer without a record or an error waits as the request says, at most a tenth of a second."""
-        times, empty, full, refused = 60, (Code.NONE, False), (Code.NONE, True), (Code.OFFSET_OUT_OF_RANGE, False)
+        empty, full, refused = (Code.NONE, False), (Code.NONE, True), (Code.OFFSET_OUT_OF_RANGE, False)
         for more in ((), ("--librdkafka",)):
             with self.subTest(more=more), ClockedKbroker(SETTINGS, more=more) as server:
                 with logged_in(server.address) as broker:
                     self.produce(broker, b"x")
                     for offset, max_wait, answer in ((1, 0, empty), (0, 60_000, full), (9, 60_000, refused)):
-                        self.assertLess(self.seconds_of(broker, times, offset, max_wait, answer), times * 0.1)
-                    took = self.seconds_of(broker, times, 1, 60_000, empty)
-                    self.assertEqual(took >= times * 0.1, bool(more), took)
-                    self.assertLess(took, 60)
+                        self.assert_held_back(broker, 0, offset, max_wait, answer)
+                    for max_wait, seconds in ((40, 0.04), (60_000, 0.1)):
+                        self.assert_held_back(broker, seconds if more else 0, 1, max_wait, empty)
                 server.settled()
 
 
@@ -351,12 +356,15 @@ class Peers(ServedCase):
 
     def test_idle_peers_are_closed(self):
         """A peer that says nothing for five seconds is closed, and one that says something each second isn't."""
-        with ClockedKbroker(SETTINGS, workers=2, connections=2, more=("--idle", "5")) as server:
+        with ClockedKbroker(SETTINGS, workers=2, connections=2, more=("--idle", str(IDLE))) as server:
+            began = time.monotonic()
             with connect(server.address) as silent, logged_in(server.address) as broker:
-                for _ in range(7):
-                    time.sleep(1)
+                while time.monotonic() - began < IDLE + LATE and not select.select([silent], [], [], 1)[0]:
                     self.assertTrue(broker.ask("Metadata", topics=None)["topics"])
-                self.assertEqual(silent.recv(1), b"", "the connection is still open")
+                took = time.monotonic() - began
+                self.assertTrue(IDLE - EARLY < took < IDLE + LATE, took)
+                self.assertEqual(silent.recv(1), b"", "the peer is answered")
+                self.assertTrue(broker.ask("Metadata", topics=None)["topics"])
             settled, told = server.settled()
         self.assertEqual((settled.sessions, told), (2, [of_nobody(0, READ_FAILED)]))
 
@@ -442,6 +450,8 @@ class Operators(ServedCase):
                 began = time.monotonic()
                 with connect(server.address) as waits:
                     wait_until(server.told, "it is not told that a connection waits")
+                    took = time.monotonic() - began
+                    self.assertTrue(0.8 < took < 1 + LATE, took)  # ten ticks, between which a rest may end early
                     time.sleep(1)
                     self.assertEqual(server.told(), [WAITING.format(2)])
                     last.close()

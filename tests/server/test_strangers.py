@@ -2,7 +2,8 @@
 
 With `--endless` thousands of connections come and go that ask nothing, a while without a descriptor for the next one follows,
 and then a client is answered as before; little memory is taken, and the last line counts every session. With `--per-host` a
-host has no more connections than it may, and may have another one for each that ends.
+host has no more connections than it may, those that wait among them, and may have another one for each that ends; the operator is
+told of those that are closed once a second at most.
 """
 
 import os
@@ -21,6 +22,7 @@ from tests.support import OF_ROOT, connect, topic, wait_until
 SETTINGS = OF_ROOT + topic("b")
 STRANGERS = 5_000
 AT_ONCE = 50  # of them
+MORE = 30  # connections of a host that has as many as it may
 GROWTH = 2 << 20  # bytes that it may take while most of the strangers come
 
 FAILED = "kbroker: connections can't be accepted for now: "
@@ -92,16 +94,35 @@ class Strangers(unittest.TestCase):
         except (EOFError, ConnectionError):
             return False
 
+    def assert_turned_away(self, server):
+        """One more connection is closed at once."""
+        with connect(server.address) as peer:
+            self.assertEqual(peer.recv(1), b"", "one connection more is open")
+
     def test_two_connections_of_a_host(self):
         """A third connection of a host is closed at once, one of another host is served, and so is a third once one has ended."""
         with ClockedKbroker(SETTINGS, connections=4, more=("--per-host", "2")) as server:
             with connect(server.address) as first, connect(server.address):
-                with connect(server.address) as third:
-                    self.assertEqual(third.recv(1), b"", "a third connection is open")
+                self.assert_turned_away(server)
+                began = time.monotonic()
+                for _ in range(MORE):
+                    self.assert_turned_away(server)
+                lines = len(without_waits(server.told()))
+                self.assertLessEqual(lines, 2 + int(time.monotonic() - began))
                 with logged_in(server.address, source="127.0.0.2") as broker:
                     self.assert_served(broker)
                 first.close()
                 wait_until(lambda: self.is_let_in(server), "no third connection is let in")
             settled, told = server.settled()
         self.assertEqual((settled.sessions, settled.refusals), (4, 0))
-        self.assertEqual({*told}, {TURNED_AWAY})
+        self.assertEqual({*without_waits(told)}, {TURNED_AWAY})
+
+    def test_a_connection_that_waits(self):
+        """It counts for its host as well."""
+        with ClockedKbroker(SETTINGS, workers=1, connections=3, more=("--per-host", "2")) as server:
+            with connect(server.address), connect(server.address):
+                self.assert_turned_away(server)
+            wait_until(lambda: self.is_let_in(server), "no connection is let in")
+            settled, told = server.settled()
+        self.assertEqual((settled.sessions, settled.refusals), (3, 0))
+        self.assertEqual({*without_waits(told)}, {TURNED_AWAY})
