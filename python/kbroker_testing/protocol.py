@@ -24,6 +24,8 @@ NAME = "kbroker_testing"
 # An answer that is no longer than this is printed in one line.
 LINE = 240
 
+TIMEOUT = 30  # seconds that a connection, and each answer, is waited for
+
 NUMBERS = {"i8": ">b", "i16": ">h", "i32": ">i", "i64": ">q"}
 
 
@@ -48,11 +50,25 @@ def write_length(length, kind, compact):
     return struct.pack(">h" if kind == "s" else ">i", -1 if length is None else length)
 
 
+def write_fields(schema, value, compact):
+    """The bytes of fields. ValueError where there is one that the schema doesn't have, or one is left out that has no usual value and
+    may not be null."""
+    names = [name for name, *_ in schema]
+    if unknown := value.keys() - names:
+        raise ValueError(f"there is no field {min(unknown)}; those there are: {', '.join(names) or 'none'}")
+    parts = []
+    for name, kind, may_be_null in schema:
+        field = value.get(name, DEFAULTS.get(name))
+        if field is None and not may_be_null:
+            raise ValueError(f"the field {name} is missing")
+        parts.append(write(kind, field, compact))
+    return b"".join(parts) + b"\0" * compact
+
+
 def write(kind, value, compact):
     """The bytes of a value."""
     if isinstance(kind, list):
-        parts = [write(of, value.get(name, DEFAULTS.get(name)), compact) for name, of, _ in kind]
-        return b"".join(parts) + b"\0" * compact
+        return write_fields(kind, value, compact)
     if isinstance(kind, tuple):
         items = b"".join(write(kind[1], item, compact) for item in value or ())
         return write_length(None if value is None else len(value), "list", compact) + items
@@ -129,9 +145,6 @@ class Reader:
 def request_frame(api, correlation, fields, client="kbroker_testing"):
     """The frame of a request, with its size field."""
     key, version, flexible, *_ = APIS[api]
-    unknown = set(fields) - {name for name, *_ in SCHEMAS[api][0]}
-    if unknown:
-        raise ValueError(f"{api} asks nothing of the name {min(unknown)}")
     body = struct.pack(">hhi", key, version, correlation) + write("s", client, False) + b"\0" * flexible
     body += write(SCHEMAS[api][0], fields, flexible)
     return struct.pack(">i", len(body)) + body
@@ -179,9 +192,10 @@ class LoginRefused(Exception):
 
 
 class Connection:
-    """A connection to the broker, from a host of this machine if one is named: requests out, responses in."""
+    """A connection to the broker, from a host of this machine if one is named: requests out, responses in. Each answer is waited for
+    so many seconds."""
 
-    def __init__(self, address, timeout=30, source=None):
+    def __init__(self, address, timeout=TIMEOUT, source=None):
         host, _, port = address.rpartition(":")
         self.socket = socket.create_connection((host.strip("[]"), int(port)), timeout, source and (source, 0))
         self.socket.setsockopt(socket.IPPROTO_TCP, socket.TCP_NODELAY, 1)
@@ -203,12 +217,20 @@ class Connection:
         self.socket.sendall(request_frame(api, self.correlation, fields))
         return self.correlation
 
+    def read(self, count):
+        """Waits for so many bytes, and gives them, or fewer where the broker closes the connection before."""
+        return self.input.read(count)
+
+    def take(self, count):
+        """As `read`, but fewer are EOFError."""
+        data = self.read(count)
+        if len(data) < count:
+            raise EOFError("the broker has closed the connection")
+        return data
+
     def receive(self, api):
         """Waits for a response, and gives its correlation id and fields."""
-        size = self.input.read(4)
-        if len(size) < 4:
-            raise EOFError("the broker has closed the connection")
-        return response_of(api, self.input.read(struct.unpack(">i", size)[0]))
+        return response_of(api, self.take(struct.unpack(">i", self.take(4))[0]))
 
     def ask(self, api, **fields):
         """Sends a request and waits for its answer."""
@@ -267,7 +289,8 @@ def record(delta, value, key=None):
 
 
 def batch(values, producer=-1, epoch=-1, sequence=-1, transactional=False):
-    """A record batch of these values, in magic 2."""
+    """A record batch in magic 2 of these values, each of which is bytes or None. The producer -1 is none; a producer's batch has the
+    sequence number of its first record."""
     records = b"".join(record(delta, value) for delta, value in enumerate(values))
     last = len(values) - 1
     summed = struct.pack(">hiqqqhii", 16 * transactional, last, 0, 0, producer, epoch, sequence, last + 1) + records
@@ -355,7 +378,7 @@ def without_aborted(batches, aborted):
 
 
 def committed(partition, offset=0):
-    """The records, by their offsets, that a read_committed consumer sees of a partition's answer, from an offset on."""
+    """The records that a read_committed consumer sees of a partition's answer, from an offset on: pairs of an offset and a value."""
     left = without_aborted(batches_of(partition["records"]), partition["aborted"])
     return [(it.offset, it.value) for it in left if it.offset >= offset]
 
@@ -407,7 +430,7 @@ def usage():
     return (
         "usage: python3 -m kbroker_testing.protocol HOST:PORT USER PASSWORD API ['JSON']\n\n"
         "Logs in, asks one thing and prints the answer as JSON. What an error is called is said on standard error.\n"
-        'JSON is an object of fields, as in \'{"topics": ["orders"]}\'; those that it leaves out are the usual ones.\n\n'
+        'JSON is an object of fields, as in \'{"topics": ["orders"]}\'; those that it leaves out are the usual ones, or null.\n\n'
         "The apis and their fields: s is a text, b bytes, i8 to i64 numbers, bool true or false, [..] a list; with ? it\n"
         "may be null. In place of a Produce's records stands what `batch` takes, as in {\"values\": [\"a cup\"]}.\n\n"
         + "\n".join(rows)
@@ -417,24 +440,27 @@ def usage():
 
 
 def fields_of(api, text):
-    """The fields that a text names."""
+    """The fields that a text names, which are those of a request."""
     try:
         fields = json.loads(text)
     except ValueError as fault:
         sys.exit(f"{NAME}: the fields are no JSON: {fault}")
     if not isinstance(fields, dict):
         sys.exit(f"{NAME}: the fields stand in an object, as in " + '{"topics": ["orders"]}')
-    known = [name for name, *_ in SCHEMAS[api][0]]
-    for name in fields:
-        if name not in known:
-            sys.exit(f"{NAME}: {api} has no field {name}; it has {', '.join(known) or 'none'}")
+    try:
+        make_batches(fields)
+        request_frame(api, 0, fields)
+    except ValueError as fault:
+        sys.exit(f"{NAME}: {api}: {fault}; --help has each field")
+    except (struct.error, KeyError, TypeError, AttributeError) as fault:
+        sys.exit(f"{NAME}: a field of {api} is not of its kind ({fault}); --help has each field")
     return fields
 
 
 def answer_to(address, user, password, api, fields):
     """What the broker answers."""
     try:
-        connection = Connection(address)
+        connection = Connection(address, TIMEOUT)
     except ValueError:
         sys.exit(f"{NAME}: {address} is no HOST:PORT")
     except OSError as fault:
@@ -455,12 +481,11 @@ def main():
     address, user, password, api = sys.argv[1:5]
     if api not in APIS:
         sys.exit(f"{NAME}: no api {api} is served; those that are: {', '.join(APIS)}")
-    fields = fields_of(api, sys.argv[5]) if len(sys.argv) == 6 else {}
+    fields = fields_of(api, sys.argv[5] if len(sys.argv) == 6 else "{}")
     try:
-        make_batches(fields)
         answer = answer_to(address, user, password, api, fields)
-    except (struct.error, KeyError, TypeError, AttributeError) as fault:
-        sys.exit(f"{NAME}: a field of {api} is not of its kind ({fault}); --help has each field")
+    except TimeoutError:
+        sys.exit(f"{NAME}: no answer comes within {TIMEOUT} seconds; all workers of the broker may be taken")
     except (EOFError, ConnectionError):
         sys.exit(f"{NAME}: the broker has closed the connection; its standard error says why")
     show_records(fields, answer)

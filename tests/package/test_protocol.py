@@ -1,10 +1,14 @@
 """The package's client: bytes as the protocol's guide lays them out, sums that others computed, and its command line."""
 
+import contextlib
 import json
+import socket
 import subprocess
 import sys
 import unittest
+from unittest import mock
 
+from kbroker_testing import protocol
 from kbroker_testing.apis import APIS, SCHEMAS
 from kbroker_testing.broker import ClockedKbroker
 from kbroker_testing.codes import Code, named
@@ -27,6 +31,7 @@ from kbroker_testing.protocol import (
     zigzag,
 )
 from program import ROOT
+from tests.models.plain_log import ABORT, COMMIT, marker
 from tests.support import OF_ROOT, free_address, of_b, topic
 
 NUMBERS = {"i8": -2, "i16": 0x0102, "i32": -1, "i64": 1 << 40, "bool": True}
@@ -41,6 +46,13 @@ def sample(kind, is_null=False, with_nulls=False):
     if isinstance(kind, tuple):
         return [sample(kind[1], False, with_nulls)] * 2
     return NUMBERS.get(kind, "é" if kind == "s" else b"\0\xff")
+
+
+@contextlib.contextmanager
+def silent_server():
+    """A socket to which clients can connect, and its address."""
+    with socket.create_server(("127.0.0.1", 0)) as server:
+        yield server, f"127.0.0.1:{server.getsockname()[1]}"
 
 
 class Bytes(unittest.TestCase):
@@ -77,8 +89,35 @@ class Bytes(unittest.TestCase):
         )
 
     def test_unknown_fields_are_refused(self):
-        with self.assertRaisesRegex(ValueError, "Metadata asks nothing of the name topic"):
-            request_frame("Metadata", 1, {"topic": "a"})
+        """Also inside a list."""
+        rows = (
+            ("Metadata", {"topic": "a"}, "there is no field topic; those there are: topics"),
+            ("OffsetCommit", {"group": "g", "topics": of_b(offset=5, metdata="here")}, "there is no field metdata"),
+            ("Fetch", {"topics": of_b(offset=0, max_byts=10)}, "there is no field max_byts"),
+            ("ApiVersions", {"topics": None}, "there is no field topics; those there are: none"),
+        )
+        for api, fields, wanted in rows:
+            with self.subTest(api=api), self.assertRaisesRegex(ValueError, wanted):
+                request_frame(api, 1, fields)
+
+    def test_missing_fields_are_refused(self):
+        """A truth, a text, a list, and a number inside a list, none of which may be null."""
+        end = {"transactional_id": "t", "producer": 1, "epoch": 2}
+        rows = (
+            ("EndTxn", end, "committed"),
+            ("FindCoordinator", {}, "key"),
+            ("Fetch", {}, "topics"),
+            ("Fetch", {"topics": of_b()}, "offset"),
+        )
+        for api, fields, missing in rows:
+            with self.subTest(api=api), self.assertRaisesRegex(ValueError, f"the field {missing} is missing"):
+                request_frame(api, 1, fields)
+
+    def test_fields_that_are_left_out(self):
+        """They are the usual ones, or null."""
+        asked = request_frame("OffsetCommit", 1, {"group": "g", "topics": of_b(offset=5)})
+        whole = {"group": "g", "generation": -1, "member": "", "retention": -1, "topics": of_b(offset=5, metadata=None)}
+        self.assertEqual(asked, request_frame("OffsetCommit", 1, whole))
 
     def test_what_is_written_is_read(self):
         """Of each api, with all that may be null, and with nothing that is."""
@@ -105,13 +144,12 @@ class Bytes(unittest.TestCase):
 class Batches(unittest.TestCase):
     # A batch of one record with the value `a`, which another encoder made (bench/produce.py has its layout).
     OF_A = (
-        "000000000000000000000039" "00000000" "02" "{crc:08x}" "0000" "00000000" "0000000000000000" "0000000000000000"
+        "000000000000000000000039" "00000000" "02" "dbe9c876" "0000" "00000000" "0000000000000000" "0000000000000000"
         "ffffffffffffffff" "ffff" "ffffffff" "00000001" "0e00000001026100"
     )
 
     def test_a_batch_byte_for_byte(self):
-        summed = bytes.fromhex(self.OF_A.format(crc=0))[21:]
-        self.assertEqual(batch([b"a"]).hex(), self.OF_A.format(crc=crc32c(summed)))
+        self.assertEqual(batch([b"a"]).hex(), self.OF_A)
 
     def test_a_spoilt_sum_is_refused(self):
         data = bytearray(batch([b"a"]))
@@ -120,14 +158,19 @@ class Batches(unittest.TestCase):
             batches_of(bytes(data))
 
     def test_what_consumers_see(self):
-        """Of a transaction that is listed as aborted nothing, up to its marker; of others all."""
-        data = [batch([b"plain"]), batch([b"x", b"y"], 5, 0, 0, True), batch([b"z"], 6, 0, 0, True)]
-        moved = [base.to_bytes(8, "big") + it[8:] for base, it in zip((0, 1, 3), data)]
+        """Of a transaction that is listed as aborted nothing, up to its marker; of others all, and no marker."""
+        of_five = [batch([b"x", b"y"], 5, 0, 0, True), marker(ABORT, 5, 0, 0).data, batch([b"again"], 5, 0, 2, True)]
+        of_six = [batch([b"z"], 6, 0, 0, True), marker(COMMIT, 6, 0, 0).data]
+        data = [batch([b"plain"]), of_five[0], of_six[0], *of_five[1:], of_six[1]]
+        moved = [base.to_bytes(8, "big") + it[8:] for base, it in zip((0, 1, 3, 4, 5, 6), data)]
         part = {"records": b"".join(moved), "aborted": [{"producer": 5, "first_offset": 1}]}
-        self.assertEqual(committed(part), [(0, b"plain"), (3, b"z")])
-        self.assertEqual(committed(part, 1), [(3, b"z")])
-        self.assertEqual(committed({**part, "aborted": None}), [(0, b"plain"), (1, b"x"), (2, b"y"), (3, b"z")])
-        self.assertEqual([it.end for it in batches_of(part["records"])], [1, 3, 4])
+        self.assertEqual(committed(part), [(0, b"plain"), (3, b"z"), (5, b"again")])
+        self.assertEqual(committed(part, 1), [(3, b"z"), (5, b"again")])
+        shown = [(0, b"plain"), (1, b"x"), (2, b"y"), (3, b"z"), (5, b"again")]
+        self.assertEqual(committed({**part, "aborted": None}), shown)
+        batches = batches_of(part["records"])
+        self.assertEqual([it.end for it in batches], [1, 3, 4, 5, 6, 7])
+        self.assertEqual([(it.base, it.commits) for it in batches if it.is_control], [(4, False), (6, True)])
 
 
 class Codes(unittest.TestCase):
@@ -153,6 +196,16 @@ class Connections(unittest.TestCase):
                 with self.assertRaises(EOFError):
                     broker.receive("Metadata")
             server.settled()
+
+    def test_an_answer_that_is_cut(self):
+        """In its size, or after it."""
+        frame = response_frame("Heartbeat", 1, {"throttle": 0, "error": 0})
+        for sent in (frame[:3], frame[:-1]):
+            with self.subTest(sent=sent), silent_server() as (server, address), Connection(address) as broker:
+                with server.accept()[0] as peer:
+                    peer.sendall(sent)
+                with self.assertRaisesRegex(EOFError, "the broker has closed the connection"):
+                    broker.receive("Heartbeat")
 
     def test_one_partition(self):
         topics = in_partition(("a", 3), offset=1)
@@ -196,6 +249,13 @@ class CommandLine(unittest.TestCase):
             self.assertEqual((status, errors), (0, "kbroker_testing: error 3 UNKNOWN_TOPIC_OR_PARTITION\n"))
             server.settled()
 
+    def test_an_answer_that_does_not_come(self):
+        """That is told, and why it may be."""
+        self.enterContext(mock.patch.object(protocol, "TIMEOUT", 0.2))
+        with silent_server() as (_, address), mock.patch.object(sys, "argv", ["", address, "u", "p", "Metadata"]):
+            with self.assertRaisesRegex(SystemExit, "no answer comes within 0.2 seconds; all workers of the broker may be taken$"):
+                protocol.main()
+
     def test_what_cannot_be_asked(self):
         nobody = free_address()
         rows = (
@@ -203,7 +263,9 @@ class CommandLine(unittest.TestCase):
             ((nobody, "u", "p", "Nothing"), "no api Nothing is served"),
             ((nobody, "u", "p", "Metadata", "{"), "the fields are no JSON"),
             ((nobody, "u", "p", "Metadata", "[]"), 'the fields stand in an object, as in {"topics": ["orders"]}'),
-            ((nobody, "u", "p", "Metadata", '{"topic": 1}'), "Metadata has no field topic; it has topics"),
+            ((nobody, "u", "p", "Metadata", '{"topic": 1}'), "Metadata: there is no field topic; those there are: topics"),
+            ((nobody, "u", "p", "FindCoordinator"), "FindCoordinator: the field key is missing"),
+            ((nobody, "u", "p", "Produce", '{"topics": ["b"]}'), "a field of Produce is not of its kind"),
             ((nobody, "u", "p", "Metadata"), f"nobody answers at {nobody}"),
             (("here", "u", "p", "Metadata"), "here is no HOST:PORT"),
         )
