@@ -3,7 +3,8 @@
 The program answers the lines so far again after each few, so that what is drawn next can go by the answers: producers
 go on with their epochs and sequence numbers. What a fetch shows, filtered as consumers filter, has to be the committed
 records from its offset on, of the batches that it was served; these follow one another in the log, below the last
-stable offset, up to it or as far as there is room.
+stable offset, up to it or as far as there is room. One that is answered an error has to be one that its user may not
+make, or from after the log's end, as far as answers before it told that.
 
 Bindings of one principal are drawn among them, and whether it may have a producer id without a transactional id is held
 against a plain scan of these.
@@ -11,6 +12,7 @@ against a plain scan of these.
 
 import random
 import unittest
+from collections import Counter
 
 from kbroker_testing.acl_model import ANY, CLUSTER, Book, Entry, Kind, Operation, Pattern, Permission
 from kbroker_testing.broker import replay
@@ -20,11 +22,12 @@ from tests.models.drawn import fields_of
 from tests.support import OF_SUPER, acl, topic
 
 # Chosen so that enough is seen.
-SEED = 7
+SEED = 208
 LINES = 1000
 DRAWN_AT_ONCE = 10
 ROOMS = 200, 300, 2000
 WHOLE = 1 << 30
+NEAR = 5  # offsets before the end of a log, and as many after it, from which each second fetch is
 
 SETTINGS = (
     OF_SUPER
@@ -40,7 +43,7 @@ IDS = ["t0", "t1", "t2"]
 # What cat is allowed or denied stands on these topics.
 NAMES = ["*", "p", "pa", "pay", "q"]
 CAT = "User:cat"
-FEWEST, FEWEST_OF_A_KIND = 30, 10  # of what is looked at
+FEWEST, FEWEST_OF_A_KIND, FEWEST_BEYOND = 30, 10, 5  # of what is looked at
 
 
 def fetch(place, offset, isolation, room):
@@ -63,7 +66,7 @@ class Drawing:
     def __init__(self):
         self.random = random.Random(SEED)
         self.pairs = {it: (0, 0) for it in IDS}
-        self.plain, self.next = [], {}
+        self.plain, self.next, self.ends = [], {}, dict.fromkeys(PLACES, 0)
         self.moment = 0
         self.book, self.initialized, self.fetches = Book(), [], []
 
@@ -82,11 +85,23 @@ class Drawing:
             sequence -= 1
         sent = batch([b"x"] * count, producer, epoch, sequence, transactional=bool(name))
         asked = request_digits("Produce", transactional_id=name, acks=1, topics=in_partition(place, records=sent))
-        return asked, lambda answer: self.learn_sequence(key, sequence + count, answer)
+        return asked, lambda answer: self.learn_produced(key, sequence, count, answered_partition("Produce", answer))
 
-    def learn_sequence(self, key, following, answer):
-        if answered_partition("Produce", answer)["error"] == Code.NONE and key[1] >= 0:
-            self.next[key] = max(self.next.get(key, 0), following)
+    def learn_produced(self, key, sequence, count, told):
+        place, producer, _ = key
+        if told["error"] == Code.NONE:
+            self.learn_end(place, told["base_offset"] + count)
+            if producer >= 0:
+                self.next[key] = max(self.next.get(key, 0), sequence + count)
+
+    def learn_end(self, place, end):
+        self.ends[place] = max(self.ends[place], end)
+
+    def learn_fetched(self, asked):
+        """Keeps a fetch that is answered, with the end of the log as far as it was told before."""
+        asked.end = self.ends[asked.place]
+        self.fetches.append(asked)
+        self.learn_end(asked.place, asked.answer["high_watermark"])
 
     def init(self, name):
         """An InitProducerId, for a transactional id or without one."""
@@ -130,6 +145,11 @@ class Drawing:
         may_write = self.book.lets_write_to_a_topic(CAT, "h")
         return may_write or self.book.refusal(CAT, "h", Operation.IDEMPOTENT_WRITE, Kind.Cluster, CLUSTER) is None
 
+    def place_in(self, end):
+        """An offset in a log that ends here, as far as it is told, or near its end."""
+        near = max(0, end + self.random.randrange(-NEAR, NEAR))
+        return self.random.choice((self.random.randrange(end + 1), near))
+
     def line(self):
         """A line, and for a request what takes its answer."""
         draw, place = self.random.randrange(24), self.random.choice(PLACES)
@@ -157,10 +177,10 @@ class Drawing:
         elif draw < 15:
             asked, taker = self.produce(place)
         else:
-            offset, is_committed = self.random.randrange(40), self.random.randrange(3) > 0
+            offset, is_committed = self.place_in(self.ends[place]), self.random.randrange(3) > 0
             room = ROOMS[offset % len(ROOMS)]
             asked = fetch(place, offset, is_committed, room)
-            taker = Fetched(place, offset, room, self.fetches) if is_committed else None
+            taker = Fetched(user, place, offset, room, self.learn_fetched) if is_committed else None
         return f"req {user} h {asked}\n", taker
 
 
@@ -176,14 +196,19 @@ class Initialized:
 
 
 class Fetched:
-    """A read_committed fetch and its answer."""
+    """A read_committed fetch, its answer, and where the log ends at least."""
 
-    def __init__(self, place, offset, room, seen):
-        self.place, self.offset, self.room, self.answer, self.seen = place, offset, room, None, seen
+    def __init__(self, user, place, offset, room, learn):
+        self.user, self.place, self.offset, self.room, self.learn = user, place, offset, room, learn
+        self.answer = self.end = None
 
     def __call__(self, answer):
         self.answer = answered_partition("Fetch", answer)
-        self.seen.append(self)
+        self.learn(self)
+
+    def may_read(self):
+        """Whether its user may read the topic: root may read each, and ann `b`."""
+        return self.user == "root" or self.user == "ann" and self.place[0] == "b"
 
 
 # ---- what should be shown
@@ -210,11 +235,26 @@ def committed_in(log):
     return shown, end if open_at is None else open_at
 
 
+def fault_of_error(asked):
+    """What is wrong with the error that a fetch is answered, or None."""
+    error, end = asked.answer["error"], asked.answer["high_watermark"]
+    if asked.may_read() == (error == Code.TOPIC_AUTHORIZATION_FAILED):
+        return f"is answered {error} for {asked.user}"
+    if error not in (Code.NONE, Code.OFFSET_OUT_OF_RANGE, Code.TOPIC_AUTHORIZATION_FAILED):
+        return f"is answered {error}"
+    if error == Code.OFFSET_OUT_OF_RANGE and asked.offset <= asked.end:
+        return f"is told that {asked.offset} is out of range where the log ends at {asked.end}"
+    if error == Code.NONE and asked.offset > end:
+        return f"is served from {asked.offset} on where the log ends at {end}"
+    return None
+
+
 def fault(asked, log):
     """What is wrong with a fetch, or None, with the log as it was; and whether it was served anything."""
     shown, wanted_stable = committed_in(log)
-    if asked.answer["error"] != Code.NONE:
-        return None, False
+    why = fault_of_error(asked)
+    if why or asked.answer["error"] != Code.NONE:
+        return why, False
     stable, served = asked.answer["last_stable_offset"], batches_of(asked.answer["records"])
     if stable != wanted_stable:
         return f"tells the last stable offset {stable} in place of {wanted_stable}", False
@@ -256,7 +296,7 @@ class Histories(unittest.TestCase):
         self.assertEqual(len(self.answers), LINES)
 
     def test_fetches_show_what_is_committed(self):
-        shown = aborts = 0
+        shown = aborts = beyond = 0
         for at, asked in enumerate(self.drawing.fetches):
             log = [it for it in self.logs[asked.place] if it.base < asked.answer["high_watermark"]]
             why, is_served = fault(asked, log)
@@ -264,8 +304,13 @@ class Histories(unittest.TestCase):
                 self.assertIsNone(why)
             shown += is_served
             aborts += is_served and bool(asked.answer["aborted"])
+            beyond += asked.answer["last_stable_offset"] < asked.offset <= asked.answer["high_watermark"]
         self.assertGreaterEqual(shown, FEWEST, "fetches that are served")
         self.assertGreaterEqual(aborts, FEWEST_OF_A_KIND, "of them with aborted transactions")
+        self.assertGreaterEqual(beyond, FEWEST_BEYOND, "fetches from beyond the last stable offset")
+        errors = Counter(it.answer["error"] for it in self.drawing.fetches)
+        for error in (Code.OFFSET_OUT_OF_RANGE, Code.TOPIC_AUTHORIZATION_FAILED):
+            self.assertGreaterEqual(errors[error], FEWEST_OF_A_KIND, f"fetches that are answered {error.name}")
 
     def test_producer_ids_are_given_as_the_bindings_let(self):
         for at, asked in enumerate(self.drawing.initialized):
