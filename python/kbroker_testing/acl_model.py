@@ -132,6 +132,8 @@ class Book:
 
     def lets_write_to_a_topic(self, principal, host):
         """Whether somebody may write to a topic at all, which is enough for an idempotent producer (KIP-679)."""
+        if principal in self.supers:
+            return True
         own = [it for it in self.bindings.values() if it.kind == Kind.Topic and it.is_for(principal, host)]
         own = [it for it in own if it.operation in (Operation.WRITE, Operation.ALL)]
         denials = [it for it in own if it.permission == Permission.DENY]

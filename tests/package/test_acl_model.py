@@ -116,6 +116,7 @@ class Books(unittest.TestCase):
                 self.assertEqual(book_of(allow, denial).lets_write_to_a_topic("User:ann", "h"), lets)
         self.assertFalse(book_of(binding()).lets_write_to_a_topic("User:ann", "h"))
         self.assertFalse(book_of(allow).lets_write_to_a_topic("User:bob", "h"))
+        self.assertTrue(book_of().lets_write_to_a_topic("User:root", "h"))
 
     def test_words_are_escaped(self):
         self.assertEqual(escaped("a b%é\n*"), "a%20b%25%C3%A9%0A*")
