@@ -37,7 +37,8 @@ def polls():
     for api, requests in POLLS.items():
         (as_before, _), (otherwise, _) = kept_of_poll(api, requests[:1]), kept_of_poll(api, requests)
         print(f"| {api} | {as_before:.0f} | {otherwise:.0f} |")
-    print(f"\nan OffsetCommit among polls: {kept_of_commit():.0f}, a short session: {kept_of_session():.0f}")
+    of_commit, _ = kept_of_commit()
+    print(f"\nan OffsetCommit among polls: {of_commit:.0f}, a short session: {kept_of_session():.0f}")
 
 
 def served(client, *words):

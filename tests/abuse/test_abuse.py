@@ -20,6 +20,7 @@ PARTITIONS = range(1_000)
 ROUNDS = 3  # of each request
 LIMIT = 1.0  # seconds that the other user may wait
 KINDS = "Topic", "Group", "TransactionalId"
+NAMES = [LONGEST[2:] + f"{it:02}" for it in range(20)]
 SETTINGS = (
     TOP
     + user("shop", "s")
@@ -30,8 +31,8 @@ SETTINGS = (
 
 
 def of_topics(code):
-    """Whether each topic that is told has this error."""
-    return lambda answer: [it["error"] for it in answer["topics"]] == [code] * len(answer["topics"])
+    """Whether each topic that was named is told, in order and with this error."""
+    return lambda answer: [(it["topic"], it["error"]) for it in answer["topics"]] == [(name, code) for name in NAMES]
 
 
 def of_partitions(code):
@@ -49,7 +50,7 @@ def committed(**more):
 REQUESTS = {
     "Metadata of 20 topics": (
         "Metadata",
-        {"topics": [LONGEST[2:] + f"{it:02}" for it in range(20)]},
+        {"topics": NAMES},
         of_topics(Code.TOPIC_AUTHORIZATION_FAILED),
     ),
     "OffsetCommit to a group, 1,000 partitions": (
@@ -136,6 +137,7 @@ class Memory(unittest.TestCase):
         wanted = [{"index": it, "offset": 0, "max_bytes": 4_000_000} for it in sent]
         answer, taken = self.taken_by(request_frame("Fetch", 1, {"max_bytes": 1 << 30, "topics": [{"topic": "t", "partitions": wanted}]}))
         [told] = response_of("Fetch", answer)[1]["topics"]
+        self.assertEqual([it["index"] for it in told["partitions"]], [*sent])
         for partition in told["partitions"]:
             # The broker gives each batch its offset, and the epoch of its leader, 0.
             batches = [struct.pack(">q", at) + it[8:12] + bytes(4) + it[16:] for at, it in enumerate(sent[partition["index"]])]

@@ -11,7 +11,8 @@ import struct
 import unittest
 
 from kbroker_testing.broker import ClockedKbroker
-from kbroker_testing.protocol import batch, in_partition, logged_in, request_frame
+from kbroker_testing.codes import Code
+from kbroker_testing.protocol import batch, in_partition, logged_in, request_frame, response_frame
 from tests.support import OF_ROOT, OF_SUPER, peak_of, script_line, topic
 
 FEW, MANY = 100_000, 200_000
@@ -108,7 +109,8 @@ def kept_of_poll(api, requests):
 
 
 def kept_of_commit():
-    """The bytes that a server keeps of an OffsetCommit among many polls without records, less what it keeps of polls alone."""
+    """The bytes that a server keeps of an OffsetCommit among many polls without records, less what it keeps of polls alone; and all
+    that was answered, as a set."""
     (fetch, _) = POLLS["Fetch"]
     fetches = [request_frame("Fetch", 7, fetch)] * POLLS_OF_A_COMMIT
     commits = [
@@ -118,12 +120,12 @@ def kept_of_commit():
     asked = [*fetches, commits[0], *fetches, commits[1]]
     of_poll, _ = kept_of_poll("Fetch", [fetch])
     with ClockedKbroker(OF_ROOT + topic("t"), connections=1) as broker, logged_in(broker.address) as client:
-        poll(client, asked, FIRST_POLLS)
+        answers = poll(client, asked, FIRST_POLLS)
         before = broker.memory()
-        poll(client, asked, MORE_POLLS)
+        answers |= poll(client, asked, MORE_POLLS)
         kept = broker.memory() - before
     count = MORE_POLLS // (POLLS_OF_A_COMMIT + 1)
-    return (kept - of_poll * (MORE_POLLS - count)) / count
+    return (kept - of_poll * (MORE_POLLS - count)) / count, answers
 
 
 def kept_of_session():
@@ -184,7 +186,10 @@ class Kept(unittest.TestCase):
                 self.assertGreater(kept, LIMIT_OF_A_POLL)  # both are kept: else it isn't two requests that are measured
 
     def test_a_request_among_polls_keeps_none_of_them(self):
-        self.assertLess(kept_of_commit(), LIMIT_OF_A_COMMIT)
+        kept, answers = kept_of_commit()
+        self.assertLess(kept, LIMIT_OF_A_COMMIT)
+        self.assertEqual(len(answers), 2)
+        self.assertIn(response_frame("OffsetCommit", 7, {"topics": in_partition(PLACE, error=Code.NONE)})[4:], answers)
 
     def test_a_short_session_keeps_little(self):
         self.assertLess(kept_of_session(), LIMIT_OF_A_SESSION)
@@ -196,6 +201,7 @@ class Kept(unittest.TestCase):
             for _ in range(FEW_SESSIONS):
                 with logged_in(broker.address) as client:
                     client.ask("Metadata", topics=["t"])
+            self.assertGreater(copies_in_memory(broker.process, b"User:root"), 0)  # else nothing is found
             self.assertLess(copies_in_memory(broker.process, b"\0root\0toor"), FEW_SESSIONS // 4)
 
 

@@ -135,9 +135,8 @@ def replayed(script):
 
 
 class Spoilt(unittest.TestCase):
-    @classmethod
-    def setUpClass(cls):
-        cls.drawing = Drawing(SEED)
+    def setUp(self):
+        self.drawing = Drawing(SEED)  # of its own for each case, so that each can be run alone
 
     def assert_response(self, expected, frame, response):
         """Whether a response is that of an api under the frame's correlation id."""

@@ -5,7 +5,7 @@ A run that goes on without the memory, as where a buffer that can't grow ahead g
 whole run writes. Any other ends with status 1, and has written the front of that, after which at most one of the
 lines `stop 1` and `settings refused: NoMemory` stands, the second only where nothing else was written. Each of the two
 has to be seen, and of `check` the second. `show` says on standard error that memory was refused, and has written whole
-lines. A command line that could not be taken in ends with status 2 and writes nothing.
+lines. A command line that could not be taken in ends with status 2 and says why on standard error alone.
 """
 
 import re
@@ -38,7 +38,7 @@ def fault_of(command, ran, whole):
     """What is wrong with a run, and the last line of one that ended early; each may be None."""
     if ran.returncode == whole.returncode and ran.stdout == whole.stdout:
         return None, None
-    if ran.returncode == 2 and ran.stdout == b"":
+    if ran.returncode == 2 and ran.stdout == b"" and ran.stderr:
         return None, None  # the command line was not taken in
     line = last_line(ran.stdout, whole.stdout)
     if ran.returncode != 1 or line is None:

@@ -1,7 +1,7 @@
 """Many connections at once, each with a topic and a transactional id of its own, most of them cut off at random.
 
 Afterwards every record that was acknowledged is fetched, nothing that was aborted or left open shows, and the books are
-settled. One round is made, with a seed of its own; the environment may ask for more rounds, or for a seed again:
+settled. More transactions have committed than there are connections. One round is made, with a seed of its own; the environment may ask for more rounds, or for a seed again:
 
     KBROKER_SOAK_ROUNDS=25 make test K=soak
     KBROKER_SOAK_SEED=123 make test K=soak
@@ -17,7 +17,7 @@ import unittest
 from kbroker_testing.broker import ClockedKbroker
 from kbroker_testing.codes import Code
 from kbroker_testing.protocol import batch, batches_of, committed, in_partition, logged_in, partition_of, request_frame
-from tests.support import OF_ROOT, topic
+from tests.support import OF_ROOT, TooLate, topic
 
 ROUNDS = int(os.environ.get("KBROKER_SOAK_ROUNDS", "1"))
 SEED = os.environ.get("KBROKER_SOAK_SEED")
@@ -26,6 +26,7 @@ PRODUCES = 500  # of each, and as many fetches
 TRANSACTIONS = 20  # of each
 RECORDS = 3  # of each transaction
 TIMEOUT = 1_000  # milliseconds until an open transaction is aborted
+ABORTED_WITHIN = 60  # seconds in which that is seen
 SETTINGS = OF_ROOT + "".join(topic(f"t{it}") for it in range(CLIENTS))
 
 
@@ -41,7 +42,7 @@ class Client(threading.Thread):
         self.address, self.number, self.drawn = address, number, drawn
         self.topic, self.id = f"t{number}", f"x{number}"
         self.left = drawn.randrange(2 * PRODUCES) if drawn.random() < 0.75 else None  # requests until it is cut
-        self.kept, self.unsure, self.fault = [], [], None
+        self.kept, self.unsure, self.committed, self.fault = [], [], 0, None
 
     def run(self):
         try:
@@ -99,11 +100,12 @@ class Client(threading.Thread):
         if commits:
             del self.unsure[-RECORDS:]
             self.kept.extend(() if code else values)
+            self.committed += not code
 
 
 def seen(broker, topic):
-    """What a read_committed consumer sees of a topic."""
-    values, offset = [], 0
+    """What a read_committed consumer sees of a topic, once no transaction is open."""
+    values, offset, until = [], 0, time.monotonic() + ABORTED_WITHIN
     while True:
         parts = in_partition((topic, 0), offset=offset, max_bytes=1 << 20)
         answer = partition_of(broker.ask("Fetch", isolation=1, topics=parts))
@@ -111,6 +113,8 @@ def seen(broker, topic):
         if not batches:
             if answer["last_stable_offset"] == answer["high_watermark"]:
                 return values
+            if time.monotonic() > until:
+                raise TooLate(f"a transaction of {topic} stays open")
             time.sleep(0.05)  # a transaction is open, or its marker is pending
             continue
         values += [value for _, value in committed(answer, offset)]
@@ -144,6 +148,7 @@ class Soak(unittest.TestCase):
             for client in clients:
                 if client.fault:
                     raise client.fault
+            self.assertGreater(sum(it.committed for it in clients), CLIENTS, "transactions that have committed")
             with logged_in(server.address, timeout=120) as broker:
                 for client in clients:
                     with self.subTest(client=client.number):
