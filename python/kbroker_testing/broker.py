@@ -245,7 +245,8 @@ class BrokerProcess:
         return self.read_line(STARTS_WITHIN)
 
     def read_line(self, within):
-        """The next line of standard output, or nothing where that has ended. A broker that takes more seconds for it is killed."""
+        """The next line of standard output, or what of it came before the output's end. A broker that says no line within so many
+        seconds is killed."""
         is_late = threading.Event()
 
         def give_up():
@@ -307,7 +308,7 @@ class BrokerProcess:
     def heard(self):
         """The next line of an answer."""
         line = "" if self.was_ended else self.read_line(ANSWERS_WITHIN)
-        if not line:
+        if not line.endswith("\n"):
             raise EOFError(f"the broker has ended, {and_tells(self.told())}")
         line = line.rstrip("\n")
         if line.startswith("stop "):

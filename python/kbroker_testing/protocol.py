@@ -55,7 +55,7 @@ def write_fields(schema, value, compact):
     may not be null."""
     names = [name for name, *_ in schema]
     if unknown := value.keys() - names:
-        raise ValueError(f"there is no field {min(unknown)}; those there are: {', '.join(names) or 'none'}")
+        raise ValueError(f"there is no field {min(unknown)}; those that are: {', '.join(names) or 'none'}")
     parts = []
     for name, kind, may_be_null in schema:
         field = value.get(name, DEFAULTS.get(name))

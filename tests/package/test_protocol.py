@@ -91,10 +91,10 @@ class Bytes(unittest.TestCase):
     def test_unknown_fields_are_refused(self):
         """Also inside a list."""
         rows = (
-            ("Metadata", {"topic": "a"}, "there is no field topic; those there are: topics"),
+            ("Metadata", {"topic": "a"}, "there is no field topic; those that are: topics"),
             ("OffsetCommit", {"group": "g", "topics": of_b(offset=5, metdata="here")}, "there is no field metdata"),
             ("Fetch", {"topics": of_b(offset=0, max_byts=10)}, "there is no field max_byts"),
-            ("ApiVersions", {"topics": None}, "there is no field topics; those there are: none"),
+            ("ApiVersions", {"topics": None}, "there is no field topics; those that are: none"),
         )
         for api, fields, wanted in rows:
             with self.subTest(api=api), self.assertRaisesRegex(ValueError, wanted):
@@ -263,7 +263,7 @@ class CommandLine(unittest.TestCase):
             ((nobody, "u", "p", "Nothing"), "no api Nothing is served"),
             ((nobody, "u", "p", "Metadata", "{"), "the fields are no JSON"),
             ((nobody, "u", "p", "Metadata", "[]"), 'the fields stand in an object, as in {"topics": ["orders"]}'),
-            ((nobody, "u", "p", "Metadata", '{"topic": 1}'), "Metadata: there is no field topic; those there are: topics"),
+            ((nobody, "u", "p", "Metadata", '{"topic": 1}'), "Metadata: there is no field topic; those that are: topics"),
             ((nobody, "u", "p", "FindCoordinator"), "FindCoordinator: the field key is missing"),
             ((nobody, "u", "p", "Produce", '{"topics": ["b"]}'), "a field of Produce is not of its kind"),
             ((nobody, "u", "p", "Metadata"), f"nobody answers at {nobody}"),

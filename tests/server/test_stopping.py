@@ -160,7 +160,7 @@ class Inputs(StoppingCase):
             broker.hand_in("end")
             self.assert_closed(other.socket)
             is_held = not select.select([client.socket], [], [], 0)[0]
-            with contextlib.suppress(OSError):  # it is closed
+            with contextlib.suppress(OSError):  # it may be closed by now
                 client.send("Metadata", topics=None)
             settled, told = self.assert_stops(broker, 0)
             self.assertEqual(partition_of(client.receive("Fetch")[1])["error"], Code.NONE)
@@ -241,7 +241,7 @@ class Inputs(StoppingCase):
         return int(lines[0].removeprefix("moment ")), events
 
     def test_ten_ticks_a_second(self):
-        """A rest between two ticks may end early, or late where the machine stands still: it does so in few half seconds."""
+        """No more come in most half seconds, and hardly fewer in some: a rest may end early, and late where the machine stands still."""
         seen = [(0, 0)]
         with Stopped(SETTINGS) as broker:
             for _ in range(6):

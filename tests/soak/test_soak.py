@@ -1,7 +1,8 @@
 """Many connections at once, each with a topic and a transactional id of its own, most of them cut off at random.
 
 Afterwards every record that was acknowledged is fetched, nothing that was aborted or left open shows, and the books are
-settled. More transactions have committed than there are connections. One round is made, with a seed of its own; the environment may ask for more rounds, or for a seed again:
+settled. More transactions have committed than there are connections. One round is made, with a seed of its own; the
+environment may ask for more rounds, or for a seed again:
 
     KBROKER_SOAK_ROUNDS=25 make test K=soak
     KBROKER_SOAK_SEED=123 make test K=soak
