@@ -51,7 +51,7 @@ OF_TEN = {
     "a Fetch of ten partitions": script_line("Fetch", isolation=0, max_bytes=1 << 20, topics=in_ten(offset=0, max_bytes=100)),
     "a Produce to ten partitions": PRODUCE_TO_TEN,
 }
-LIMITS_OF_TEN = {"a Fetch of ten partitions": 3_000, "a Produce to ten partitions": 2_250}
+LIMITS_OF_TEN = {"a Fetch of ten partitions": 2_150, "a Produce to ten partitions": 2_080}
 
 # What a consumer asks again and again, of a log without records and of a group: the fields of a request, and of one like it.
 POLLS = {
