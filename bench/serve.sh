@@ -32,26 +32,26 @@ for topic in b b0 b1 b2 b3; do
     printf '[[topic]]\nname = "%s"\npartitions = 1\n' "$topic" >> "$made/settings"
 done
 
-# Starts one of the brokers, and waits until it says where it listens, or has ended.
+# Starts one of the brokers, and waits until it says where it listens, or has ended; then what it told of that is shown.
 start() {
     case "$1" in
     mock)
         mkfifo "$made/input"
-        "$made/mock" < "$made/input" > "$made/said" &
+        "$made/mock" < "$made/input" > "$made/said" 2> "$made/errors" &
         started=$!
         exec 9> "$made/input"
         ;;
     floor)
-        "$made/floor" > "$made/said" &
+        "$made/floor" > "$made/said" 2> "$made/errors" &
         started=$!
         ;;
     *)
-        "$1" serve --listen 127.0.0.1:0 --workers 4 < "$made/settings" > "$made/said" &
+        "$1" serve --listen 127.0.0.1:0 --workers 4 < "$made/settings" > "$made/said" 2> "$made/errors" &
         started=$!
         ;;
     esac
     until grep -q "^listening on " "$made/said" 2>/dev/null; do
-        kill -0 "$started" 2>/dev/null || { echo "bench/serve.sh: $1 doesn't start" >&2; exit 1; }
+        kill -0 "$started" 2>/dev/null || { cat "$made/errors" >&2; echo "bench/serve.sh: $1 doesn't start" >&2; exit 1; }
         sleep 0.05
     done
     address=$(sed -n 's/^listening on //p' "$made/said")
