@@ -12,7 +12,18 @@ from pathlib import Path
 
 sys.path[:0] = [str(Path(__file__).resolve().parent.parent)]
 
-from tests.abuse.test_kept import EVENTS, POLLS, kept_of, kept_of_commit, kept_of_poll, kept_of_session  # noqa: E402
+from tests.abuse.test_kept import (  # noqa: E402
+    EVENTS,
+    FEW_OF_TEN,
+    MANY_OF_TEN,
+    OF_TEN,
+    POLLS,
+    PRODUCE_TO_TEN,
+    kept_of,
+    kept_of_commit,
+    kept_of_poll,
+    kept_of_session,
+)
 from tests.support import OF_ROOT, topic  # noqa: E402
 
 from kbroker_testing.broker import ClockedKbroker  # noqa: E402
@@ -23,11 +34,12 @@ SIZES = (1_000_000, 16_384)
 
 
 def small_events():
-    """A table of small events."""
+    """A table of small events, and of those of ten partitions."""
     print("| an event | its line | its frame | kept above these |\n|---|--:|--:|--:|")
-    for name, line in EVENTS.items():
-        line_bytes, own, kept = kept_of(line)
-        print(f"| {name} | {line_bytes} | {own} | {kept:.0f} |")
+    kept = {name: kept_of(line) for name, line in EVENTS.items()}
+    kept |= {name: kept_of(line, PRODUCE_TO_TEN, FEW_OF_TEN, MANY_OF_TEN) for name, line in OF_TEN.items()}
+    for name, (line_bytes, own, above) in kept.items():
+        print(f"| {name} | {line_bytes} | {own} | {above:.0f} |")
 
 
 def polls():
