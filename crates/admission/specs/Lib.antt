@@ -1,4 +1,5 @@
 pub mod Hosts
 pub mod Kept
 pub mod Pace
+pub mod Peers
 pub mod PaceLaws

@@ -6,8 +6,10 @@ mod doorman;
 mod hosts;
 mod laws;
 mod pace;
+mod peer;
 
 pub use doorman::Doorman;
 pub use hosts::Hosts;
 pub use laws::rate_is_kept;
 pub use pace::{Pace, Rate};
+pub use peer::host_of;
