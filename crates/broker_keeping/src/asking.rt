@@ -2,12 +2,10 @@
 
 use crate::control_command::{ControlCommand, parse_control_command};
 use crate::operator_log::OperatorLog;
-use crate::state_report::state_report_of;
-use crate::state_text::state_text;
-use crate::trail_delta::{TrailDelta, delta_since, lines_of};
 use authorizer::Refusal;
 use byte_streams::write_whole;
 use commands::content;
+use core_reports::{TrailDelta, delta_since, lines_of, state_report_of, state_text};
 use request_handlers::Stop;
 use session_pool::{DeskLedger, LockedDesk, ShutdownFlag};
 use std::alloc::{AllocError, Global};

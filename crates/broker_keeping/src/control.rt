@@ -1,12 +1,11 @@
 //! The keeper's steps, by lines that steer the broker.
 
-ghost use Rattle.std.specs.Prelude.{None};
+ghost use Rattle.std.specs.Prelude.{false};
 
 use crate::asking::{Asking, Steering};
 use crate::control_command::ControlCommand;
 use crate::operator_log::OperatorLog;
-use crate::state_report::{TickReport, front_of, open_ones, tick_report_of};
-use crate::state_text::{front_text, moment_text};
+use core_reports::{TickReport, front_of, front_text, moment_text, open_ones, tick_report_of};
 use request_handlers::{Core, Stop};
 use session_pool::{DeskLedger, EndReason, LockedDesk, Step, Steps};
 use std::alloc::{AllocError, Global};
@@ -176,7 +175,15 @@ impl<'d, 'r, L: DeskLedger, R: Wait + time::Clock, I: BufRead, O: Write> Control
 impl<'d, 'r, L: DeskLedger, R: Wait + time::Clock, I: BufRead, O: Write> Steps
     for Control<'d, 'r, L, R, I, O> {
     /// The lines say when a marker is written, whether one is pending or not.
-    ghost owed = { λ _. None };
+    ghost State = { Unit {0} };
+
+    ghost state = { λ _. tt };
+
+    ghost gives = { λ _ _ _ _. Unit {0} };
+
+    ghost told = { λ _ _. tt };
+
+    ghost halts = { false };
 
     /// Sees in the core what the answer to the step's line needs from before the step.
     fn before(&mut self, core: &Core) {

@@ -1,8 +1,7 @@
 //! The steps of the clock, after each of which an operator reads what is new.
 
-ghost use Rattle.std.specs.Prelude.{◌≡◌, ◌<◌, false, Some, IfSome, IsSome, is_ok};
-ghost use Rattle.session_pool.specs.Steps.{IsDue, step_event, pending_after_outcome};
-ghost use Rattle.session_pool.specs.declared.steps.Step.TheVariants.{Mark};
+ghost use Rattle.std.specs.Prelude.{◌≡◌, ℕ, true, not, is_some};
+ghost use Rattle.session_pool.specs.Steps.{GivenByClock, told_by_clock};
 
 use crate::ticks::Ticks;
 use crate::watch::Watch;
@@ -31,17 +30,20 @@ impl<'d, 'r, L: DeskLedger, R: Wait + time::Clock> Timekeeper<'d, 'r, L, R> {
 }
 
 impl<'d, 'r, L: DeskLedger, R: Wait + time::Clock> Steps for Timekeeper<'d, 'r, L, R> {
-    ghost owed = { λ keeper. Some keeper.clock.left };
+    ghost State = { Unit {0} × ℕ };
 
-    /// The clock's next step; `None` once all workers have ended (`done`) and no marker is pending, and then the last refusals
-    /// are logged. At ticks it looks whether connections wait.
-    fn next(&mut self, done: bool) -> Option<Step>
-        ensures step { IfSome result (λ step. IsDue (Some self.old.clock.left) (step_event step)) }
-        ensures owed { self.new.clock.left ≡ self.old.clock.left }
-        ensures marked { 0 < self.old.clock.left → result ≡ Some Mark }
-        ensures goes_on { done ≡ false → IsSome result }
-    {
-        let done = done && !self.watch.owes_markers();
+    ghost state = { λ keeper. (tt, keeper.clock.left) };
+
+    ghost gives = { GivenByClock (λ _ done moment _. is_some moment ≡ not done) };
+
+    ghost told = { told_by_clock };
+
+    ghost halts = { true };
+
+    /// The clock's next step; `None` where all workers have ended (`done`) and no marker is known to be pending, and before that
+    /// the last refusals are logged. At ticks it looks whether connections wait.
+    #[tactic(auto, using(crate::proofs::Clocks::given_until_done))]
+    fn next(&mut self, done: bool) -> Option<Step> {
         if done {
             self.watch.look();
         }
@@ -61,11 +63,8 @@ impl<'d, 'r, L: DeskLedger, R: Wait + time::Clock> Steps for Timekeeper<'d, 'r, 
     }
 
     /// Logs what was taken, and warns that the clock stops, where the step wasn't taken. Gives whether the clock goes on.
-    fn on_result(&mut self, outcome: Result<u64, EndReason>) -> bool
-        ensures owed { Some self.new.clock.left ≡ pending_after_outcome (Some self.old.clock.left)
-            outcome }
-        ensures goes_on { result ≡ is_ok outcome }
-    {
+    #[tactic(auto, using(crate::proofs::Clocks::told_left))]
+    fn on_result(&mut self, outcome: Result<u64, EndReason>) -> bool {
         self.watch.tell();
         if let Err(why) = outcome {
             self.watch.stop(why);

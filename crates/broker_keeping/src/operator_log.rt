@@ -1,13 +1,10 @@
 //! The log for an operator: what goes into it.
 
-use crate::counts::{counts_line, counts_of};
-use crate::log_message::{Level, LogMessage, Queued};
-use crate::log_writer::LogWriter;
 use crate::refused::refused_words;
-use crate::starting::{Started, start_line};
-use crate::unserved::unserved_words;
 use admission::Doorman;
+use core_reports::{Started, counts_line, counts_of, start_line, unserved_words};
 use crossbeam_channel::Sender;
+use log_queue::{Level, LogMessage, LogWriter, Queued};
 use request_handlers::{Core, MOST_SEATS};
 use session_pool::{DeskLedger, EndReason, Gate, LockedDesk};
 use std::alloc::{AllocError, Global};

@@ -1,7 +1,7 @@
 //! What an operator reads of a frame that ends a session whose user isn't known.
 
-use crate::unserved::{api_name, asked};
 use audit_trail::push_word;
+use core_reports::{api_name, asked};
 use msg_admin::{Request, read_request};
 use session_pool::name_in;
 use std::alloc::{AllocError, Global};

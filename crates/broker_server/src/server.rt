@@ -1,12 +1,12 @@
 //! Serves the connections of a listener, and settles the books.
 
-ghost use Rattle.std.specs.Prelude.{◌≡◌, ℕ, Option, ◌+◌, List, [], length, IfOk, IfSome, string_bytes};
+ghost use Rattle.std.specs.Prelude.{◌≡◌, ℕ, ◌+◌, List, [], length, IfOk, IfSome, string_bytes};
 ghost use Rattle.settings.specs.declared.settings.Settings.{Settings};
 ghost use Rattle.broker_server.specs.Counted.{receipts_of, IsCounted};
 ghost use Rattle.broker_server.specs.Lines.{listening_line};
 ghost use Rattle.broker_server.specs.Serves.{IsLast, Serves};
 ghost use Rattle.request_handlers.specs.Seats.{most_seats};
-ghost use Rattle.session_workers.specs.Ends.{AreEnds};
+ghost use Rattle.session_workers.specs.Ends.{AreEnds, AsksNothing};
 
 use crate::lines::{Failure, Unbegun, failure_line, listening_line, settled_line};
 use broker_keeping::{
@@ -71,7 +71,7 @@ fn receipts_of<L: DeskLedger>(
 /// count them.
 #[tactic(auto, using(crate::proofs::Counting::ends_at_least))]
 fn sessions_of<L: DeskLedger>(ends: &[SessionEnd<Seat<L>>], others: u64) -> Option<u64>
-    requires { (owed : Option ℕ) × AreEnds owed ends.now }
+    requires { AreEnds AsksNothing ends.now }
     ensures { IfSome result (λ sessions. sessions + 1 ≡ length ends.now + others) }
 {
     let kept = (ends.len() - 1) as u64;
@@ -87,7 +87,7 @@ fn settle_ends<L: DeskLedger, R: Wait + Drop>(
     desk: LockedDesk<L, R>,
     ended: Ended<L>,
 ) -> Result<(u64, Settled), Failure>
-    requires { (owed : Option ℕ) × AreEnds owed ended.ends.items }
+    requires { AreEnds AsksNothing ended.ends.items }
     ensures counted { IfOk result (λ told. IsCounted L.settings told.0 told.1) }
     ensures all { IfOk result (λ told. told.0 + 1 ≡ length ended.ends.items + ended.others) }
 {
@@ -120,7 +120,7 @@ fn serve_clocked<
     closing: Option<&'x ShutdownFlag>,
     log: &'x OperatorLog<'r, R>,
 ) -> Result<Ended<L>, PoolFault>
-    ensures { IfOk result (λ ended. (owed : Option ℕ) × AreEnds owed ended.ends.items) }
+    ensures { IfOk result (λ ended. AreEnds AsksNothing ended.ends.items) }
 {
     let here: &'x R = rt;
     let watch = Watch::new(alloc, desk, log, audit);
@@ -147,7 +147,7 @@ fn serve_attended<
     steering: Steering<'x, I, O>,
     log: &'x OperatorLog<'r, R>,
 ) -> Result<Ended<L>, PoolFault>
-    ensures { IfOk result (λ ended. (owed : Option ℕ) × AreEnds owed ended.ends.items) }
+    ensures { IfOk result (λ ended. AreEnds AsksNothing ended.ends.items) }
 {
     let here: &'x R = rt;
     let Service {
@@ -161,7 +161,7 @@ fn serve_attended<
         thread::scope_env(),
         here,
         move |scope| -> Result<Ended<L>, PoolFault>
-            ensures { IfOk result (λ ended. (owed : Option ℕ) × AreEnds owed ended.ends.items) }
+            ensures { IfOk result (λ ended. AreEnds AsksNothing ended.ends.items) }
         {
             let attending = scope.spawn(move || attendant.attend());
             if attending.is_err() {
@@ -195,7 +195,7 @@ fn serve_steps<
     server: Server<'x, I, O>,
     log: &'x OperatorLog<'r, R>,
 ) -> Result<Ended<L>, PoolFault>
-    ensures { IfOk result (λ ended. (owed : Option ℕ) × AreEnds owed ended.ends.items) }
+    ensures { IfOk result (λ ended. AreEnds AsksNothing ended.ends.items) }
 {
     let Server {
         listener,
@@ -239,14 +239,14 @@ fn serve_kept<
     log: &'x OperatorLog<'r, R>,
     log_writer: LogWriter<E>,
 ) -> Result<Ended<L>, PoolFault>
-    ensures { IfOk result (λ ended. (owed : Option ℕ) × AreEnds owed ended.ends.items) }
+    ensures { IfOk result (λ ended. AreEnds AsksNothing ended.ends.items) }
 {
     let here: &'x R = rt;
     thread::scope(
         thread::scope_env(),
         here,
         move |scope| -> Result<Ended<L>, PoolFault>
-            ensures { IfOk result (λ ended. (owed : Option ℕ) × AreEnds owed ended.ends.items) }
+            ensures { IfOk result (λ ended. AreEnds AsksNothing ended.ends.items) }
         {
             let telling = scope.spawn(move || drop(log_writer.run(here)));
             if telling.is_err() {

@@ -16,4 +16,4 @@ mod turn;
 pub use lines::{content, split_input, split_line};
 pub use open::{Opened, open_and_explain};
 pub use order::{Order, Sent, Unreadable, parse_number, parse_order};
-pub use run::{check, check_and_explain, replay, replay_and_explain};
+pub use run::{check, replay};

@@ -87,7 +87,7 @@ fn open_settings<W: Write, E: Write>(
     warn(alloc, &document, errors);
     let Document { users, settings } = document;
     let bindings = settings.settings().acls.len();
-    let Ok(users) = Shared::new(alloc, Users::of_checked(users)) else {
+    let Ok(users) = Shared::new(alloc, users) else {
         return Err(Unopened::Early(Early::Settings));
     };
     match Core::checked_with_hasher(alloc, settings, hasher) {

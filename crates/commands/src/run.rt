@@ -22,7 +22,7 @@ use request_handlers::{Core, Stop};
 use settings_text::{SettingsFault, document_of_text};
 use std::alloc::Global;
 use std::fmt::Display;
-use std::io::{Read, Write, sink};
+use std::io::{Read, Write};
 use wire_types::Block;
 
 /// What is said where an input has settings alone.
@@ -260,7 +260,7 @@ pub(crate) fn end_early<W: Write>(writer: &mut W, early: Early)
 
 /// Runs a command on all that the reader gives, says in sentences to `errors` what went wrong, and gives the exit status, which
 /// is 1 where the run ends early.
-fn run_and_explain<R: Read, W: Write, E: Write>(
+fn run_command<R: Read, W: Write, E: Write>(
     alloc: Global,
     command: Command,
     reader: &mut R,
@@ -282,54 +282,35 @@ fn run_and_explain<R: Read, W: Write, E: Write>(
     }
 }
 
-/// As `replay`, but also says in sentences to `errors` what went wrong.
-pub fn replay_and_explain<R: Read, W: Write, E: Write>(
-    alloc: Global,
-    reader: &mut R,
-    writer: &mut W,
-    errors: &mut E,
-) -> u8
-    ensures prints { IfSome (R.remaining reader.old)
-        (λ input. Replayed (W.contents writer.old) (W.contents writer.new) (replay_answer input)
-        result) }
-    ensures bounded { TakesWithin (R.remaining reader.old) (R.remaining reader.new) }
-{
-    run_and_explain(alloc, Command::Replay, reader, writer, errors)
-}
-
 /// The command `replay`: reads the whole input, opens a broker with the settings up to a line `---`, and answers the lines of the
-/// script after that, until one ends it. Gives the exit status: 0 where each line was answered, else 1.
-pub fn replay<R: Read, W: Write>(alloc: Global, reader: &mut R, writer: &mut W) -> u8
-    ensures prints { IfSome (R.remaining reader.old)
-        (λ input. Replayed (W.contents writer.old) (W.contents writer.new) (replay_answer input)
-        result) }
-    ensures bounded { TakesWithin (R.remaining reader.old) (R.remaining reader.new) }
-{
-    replay_and_explain(alloc, reader, writer, &mut sink())
-}
-
-/// As `check`, but also says in sentences to `errors` what went wrong.
-pub fn check_and_explain<R: Read, W: Write, E: Write>(
+/// script after that, until one ends it. Says in sentences to `errors` what went wrong, and gives the exit status: 0 where each
+/// line was answered, else 1.
+pub fn replay<R: Read, W: Write, E: Write>(
     alloc: Global,
     reader: &mut R,
     writer: &mut W,
     errors: &mut E,
 ) -> u8
     ensures prints { IfSome (R.remaining reader.old)
-        (λ input. Replayed (W.contents writer.old) (W.contents writer.new) (check_answer input)
+        (λ input. Replayed (W.contents writer.old) (W.contents writer.new) (replay_answer input)
         result) }
     ensures bounded { TakesWithin (R.remaining reader.old) (R.remaining reader.new) }
 {
-    run_and_explain(alloc, Command::Check, reader, writer, errors)
+    run_command(alloc, Command::Replay, reader, writer, errors)
 }
 
 /// The command `check`: reads settings up to the end of the input, prints `settings ok`, or `settings refused: FAULT` with their
-/// first fault, and gives the exit status, 0 or 1.
-pub fn check<R: Read, W: Write>(alloc: Global, reader: &mut R, writer: &mut W) -> u8
+/// first fault, says in sentences to `errors` what is wrong or doubtful, and gives the exit status, 0 or 1.
+pub fn check<R: Read, W: Write, E: Write>(
+    alloc: Global,
+    reader: &mut R,
+    writer: &mut W,
+    errors: &mut E,
+) -> u8
     ensures prints { IfSome (R.remaining reader.old)
         (λ input. Replayed (W.contents writer.old) (W.contents writer.new) (check_answer input)
         result) }
     ensures bounded { TakesWithin (R.remaining reader.old) (R.remaining reader.new) }
 {
-    check_and_explain(alloc, reader, writer, &mut sink())
+    run_command(alloc, Command::Check, reader, writer, errors)
 }

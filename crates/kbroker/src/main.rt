@@ -10,7 +10,7 @@ use admission::Rate;
 use arguments::{Job, Serving, Showing, ShutdownOptions, VERSION, arguments};
 use broker_keeping::Steering;
 use broker_server::{ServeOptions, Server, serve};
-use commands::{Opened, check_and_explain, open_and_explain, replay_and_explain};
+use commands::{Opened, check, open_and_explain, replay};
 use session_pool::{ListedVersions, ShutdownFlag};
 use session_workers::{ConnectionOptions, SessionOptions};
 use show::{Noted, explain, explain_by, show_and_explain};
@@ -188,8 +188,8 @@ impl Task<'_> {
     ) -> u8 {
         let mut reader = Noted::new(reader);
         let status = match self {
-            Task::Replay => replay_and_explain(alloc, &mut reader, writer, errors),
-            Task::Check => check_and_explain(alloc, &mut reader, writer, errors),
+            Task::Replay => replay(alloc, &mut reader, writer, errors),
+            Task::Check => check(alloc, &mut reader, writer, errors),
             Task::Show(answers) => {
                 show_and_explain(rt, alloc, name, answers, &mut reader, writer, errors)
             }

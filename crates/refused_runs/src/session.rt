@@ -4,7 +4,10 @@ ghost use Rattle.std.specs.Prelude.{◌≡◌, ◌+◌, [], IfSome};
 ghost use Rattle.request_handlers.specs.Seats.{most_seats};
 
 use request_handlers::{Core, MOST_SEATS};
-use session_pool::{DeskLedger, EndReason, Limits, LockedDesk, SessionEnd, Users, serve_session};
+use session_pool::{
+    DeskLedger, EndReason, Limits, ListedVersions, LockedDesk, LoginContext, SessionContext,
+    SessionEnd, Users, serve_session,
+};
 use settings_text::{Document, document_of_text};
 use std::alloc::{AllocError, Global};
 use std::io;
@@ -56,7 +59,7 @@ impl Script {
     {
         let Document { users, settings } = document_of_text(alloc, settings.as_bytes()).ok()?;
         Some(Script {
-            users: Users::of_checked(users),
+            users,
             host: Text::of(alloc, "10.0.0.5").ok()?,
             input: bytes_of(alloc, frames)?,
             output: Vec::with_capacity(alloc, ROOM).ok()?,
@@ -86,18 +89,23 @@ fn serve_at<L: DeskLedger, R: Wait + Drop>(
     } = script;
     let desk: LockedDesk<L, R> = LockedDesk::new(core, blank, rt);
     let seat = desk.seat()?;
-    let limits = Limits::default();
+    let context = SessionContext {
+        session: 0,
+        login: LoginContext {
+            host: &host,
+            users: &users,
+            listed: ListedVersions::AsServed,
+        },
+        limits: Limits::default(),
+        desk: &desk,
+        gate: &(),
+    };
     let SessionEnd { receipts, why, .. } = serve_session(
         alloc,
-        0,
+        &context,
         input.as_slice(),
         &mut output,
-        &host,
-        &users,
-        &desk,
         seat,
-        limits,
-        &(),
     );
     Some(Came {
         receipts: receipts.len(),

@@ -5,7 +5,7 @@ ghost use Rattle.std.specs.Prelude.{None};
 use commands::{check, replay};
 use std::alloc::Global;
 use std::io;
-use std::io::{ErrorKind, Read, Write};
+use std::io::{ErrorKind, Read, Write, sink};
 use std::test::Fail;
 
 const SETTINGS: &[u8] = b"node_id = 1\nhost = \"h\"\nport = 1\n";
@@ -79,9 +79,9 @@ fn run(alloc: Global, is_check: bool, reads: usize, writes: usize) -> Ran {
         writes,
     };
     let status = if is_check {
-        check(alloc, &mut reader, &mut writer)
+        check(alloc, &mut reader, &mut writer, &mut sink())
     } else {
-        replay(alloc, &mut reader, &mut writer)
+        replay(alloc, &mut reader, &mut writer, &mut sink())
     };
     Ran {
         status,

@@ -9,6 +9,9 @@ use std::time::Duration;
 use std::{io, thread, time};
 use wire_types::Shared;
 
+/// How many turns a wait has at most.
+const TURNS: u32 = 10_000;
+
 /// How far the two sessions have come.
 #[derive(Drop)]
 pub(crate) struct Flags {
@@ -30,14 +33,14 @@ impl Flags {
         }
     }
 
-    /// Waits until a flag is set, for at most 100 sleeps of a tenth of a second; then sets `late`. They are few, so that they last
-    /// little longer on a busy machine; and they are counted, so that a process that stands still isn't late.
+    /// Waits until a flag is set, for at most `TURNS` turns of a millisecond each; then sets `late`. Turns are counted, and not the
+    /// time, so that a process that stands still isn't late.
     fn wait<R: time::Clock>(&self, rt: &R, flag: &AtomicU64) {
-        for _ in 0..100 {
+        for _ in 0..TURNS {
             if flag.load(Ordering::SeqCst) != 0 {
                 return;
             }
-            thread::sleep(rt, Duration::from_millis(100));
+            thread::sleep(rt, Duration::from_millis(1));
         }
         self.late.store(1, Ordering::SeqCst);
     }

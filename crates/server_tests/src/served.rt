@@ -4,8 +4,6 @@
 ghost use Rattle.std.specs.Prelude.{◌≡◌, ◌+◌, []};
 ghost use Rattle.request_handlers.specs.Seats.{most_seats};
 
-use crate::clients::{HANDSHAKE_TOLD, LOGIN_TOLD, bytes_of};
-use crate::talk::{HANDSHAKE, LOGIN, METADATA, core, event_of, users};
 use admission::Rate;
 use arguments::VERSION;
 use broker_keeping::Steering;
@@ -24,6 +22,9 @@ use std::test::Fail;
 use std::thread::Threads;
 use std::time::{Duration, Instant};
 use std::{io, thread, time};
+use test_frames::{
+    HANDSHAKE, HANDSHAKE_TOLD, LOGIN, LOGIN_TOLD, METADATA, bytes_of, core, event_of, users,
+};
 use wire_types::Shared;
 
 /// Broker 1 at `h` and port 9092, which is the controller, and the topic `b` with its one partition.

@@ -3,7 +3,6 @@
 ghost use Rattle.std.specs.Prelude.{◌≡◌, ◌+◌, []};
 ghost use Rattle.request_handlers.specs.Seats.{most_seats};
 
-use crate::talk::{ONE_REFUSED, TWO_REFUSED, core as equal_core, event_of, other_core};
 use audit_trail::Event;
 use request_handlers::{Core, MOST_SEATS, Receipt, Stop};
 use session_pool::{Desk, DeskLedger, LockedDesk, Quiet};
@@ -13,6 +12,7 @@ use std::marker::Brand;
 use std::sync::Wait;
 use std::sync::ledger::{Blank, Ledger};
 use std::test::Fail;
+use test_frames::{ONE_REFUSED, TWO_REFUSED, core as equal_core, event_of, other_core};
 
 /// The receipts of two seats, and the core that gave them.
 #[derive(Drop)]

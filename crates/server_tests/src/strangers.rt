@@ -4,9 +4,7 @@
 ghost use Rattle.std.specs.Prelude.{◌≡◌, ◌+◌, []};
 ghost use Rattle.request_handlers.specs.Seats.{most_seats};
 
-use crate::clients::{HANDSHAKE_TOLD, LOGIN_TOLD, bytes_of};
 use crate::served::{METADATA_TOLD, PATIENCE};
-use crate::talk::{HANDSHAKE, LOGIN, METADATA, core, users};
 use crate::together::Ticks;
 use admission::{Doorman, Rate};
 use request_handlers::{Core, MOST_SEATS};
@@ -23,6 +21,7 @@ use std::test::Fail;
 use std::thread::Threads;
 use std::time::Duration;
 use std::{io, thread, time};
+use test_frames::{HANDSHAKE, HANDSHAKE_TOLD, LOGIN, LOGIN_TOLD, METADATA, bytes_of, core, users};
 use wire_types::{Shared, Text};
 
 /// Counts the connections that are turned away, and those for which no seat is left.

@@ -3,20 +3,19 @@
 ghost use Rattle.std.specs.Prelude.{◌≡◌, ◌+◌, [], is_some, not};
 ghost use Rattle.request_handlers.specs.Seats.{most_seats};
 
-use crate::clients::{HANDSHAKE_TOLD, LOGIN_TOLD, bytes_of};
 use crate::hold::{Answers, Flags, Hold, Place, Talk};
-use crate::talk::{
-    FETCH, FETCH_TOLD, HANDSHAKE, LOGIN, METADATA, METADATA_TOLD, PRODUCE, PRODUCE_TOLD, core,
-    event_of, users,
-};
 use acl_binding::Caller;
+use admission::Rate;
 use audit_trail::{Event, Trail};
 use crossbeam_channel::Sender;
 use deadlines::Times;
 use msg_admin::Request;
 use request_handlers::{Core, MOST_SEATS, Receipt, Seat};
-use session_pool::{Clock, DeskLedger, EndReason, Limits, LockedDesk, Quiet, SessionEnd, Users};
-use session_workers::{Job, serve_all, settle};
+use session_pool::{
+    Clock, Clocked, DeskLedger, EndReason, Limits, ListedVersions, LockedDesk, Quiet, SessionEnd,
+    ShutdownFlag, Users,
+};
+use session_workers::{Job, ServerContext, SessionOptions, serve_all, settle};
 use std::alloc::Global;
 use std::io::Cursor;
 use std::marker::Brand;
@@ -27,6 +26,10 @@ use std::test::Fail;
 use std::thread::Threads;
 use std::time::Duration;
 use std::{thread, time};
+use test_frames::{
+    FETCH, FETCH_TOLD, HANDSHAKE, HANDSHAKE_TOLD, LOGIN, LOGIN_TOLD, METADATA, METADATA_TOLD,
+    PRODUCE, PRODUCE_TOLD, bytes_of, core, event_of, users,
+};
 use wire_types::{Shared, Text};
 
 /// A clock that counts milliseconds, one for each sleep of a millisecond, until all workers have ended.
@@ -195,8 +198,19 @@ fn serve_both<L: DeskLedger + Send + Sync, R: Threads + Wait + time::Clock + Cop
     let (to, from) = crossbeam_channel::unbounded(alloc)?;
     send_both(rt, alloc, &to, flags, written, place)?;
     drop(to);
-    let clock = Ticks { rt, moment: 0 };
-    match serve_all(&rt, alloc, desk, from, workers, clock, &gate) {
+    let reading = ShutdownFlag::new();
+    let server = ServerContext {
+        options: SessionOptions {
+            listed: ListedVersions::AsServed,
+            rate: Rate::ANY,
+        },
+        desk,
+        gate: &gate,
+        doorman: &(),
+        reading: &reading,
+    };
+    let steps = Clocked::new(Ticks { rt, moment: 0 });
+    match serve_all(&rt, alloc, &server, from, workers, steps) {
         Ok(ended) => Ok(ended.ends),
         Err(_) => Err(Fail::from("served")),
     }

@@ -1,16 +1,6 @@
-pub mod Bytes
-pub mod Compared
-pub mod Found
-pub mod Fronts
+pub mod Clocks
 pub mod Lengths
-pub mod Longest
 pub mod Own
-pub mod Plain
-pub mod Responses
 pub mod Sessions
-pub mod Short
 pub mod Stays
-pub mod Streaming
 pub mod Unread
-pub mod Versions
-pub mod Wrote

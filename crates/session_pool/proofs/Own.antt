@@ -9,10 +9,10 @@ use Rattle.msg_admin.specs.Request.{request_at}
 use Rattle.msg_admin.specs.Versions.{unsupported_at}
 use Rattle.audit_trail.specs.declared.event.Event.{Event}
 use Rattle.settings_text.specs.declared.document.User.{User}
-use Rattle.session_pool.specs.declared.login.SessionState.{SessionState}
+use Rattle.sasl_login.specs.declared.login.SessionState.{SessionState}
 use Rattle.session_pool.specs.Asks.{Setting, Tells, Refuses, events_then, asks_of, Step, fresh_state, offered_state, known_state, start_of, is_served, is_login, longest_before_login, logs_in, fresh_step, offered_step, step_if_readable, step_by_start_if_any, step_by_version}
 use Rattle.session_pool.specs.Frames.{frames_of}
-use Rattle.session_pool.specs.LoginMessage.{is_plain, login_of}
+use Rattle.sasl_login.specs.LoginMessage.{is_plain, login_of}
 use Rattle.session_pool.specs.Own.{TellsPassword, SomeTells, AreOwn, AsksAreOwn}
 
 -- a frame that asks nothing

@@ -8,18 +8,21 @@ use Rattle.request_handlers.specs.Receipt.{ReceiptValue}
 use Rattle.wire_types.specs.declared.fault.WriteFault.{WriteFault}
 use Rattle.wire_types.specs.declared.fault.WriteFault.TheVariants as faults
 use Rattle.request_handlers.specs.declared.stop.Stop.{Stop}
-use Rattle.session_pool.specs.declared.login.SessionState.{SessionState}
-use Rattle.session_pool.specs.declared.login.SessionState.TheVariants.{Known}
+use Rattle.frame_streams.specs.declared.fault.FrameFault.{FrameFault}
+use Rattle.frame_streams.specs.declared.fault.FrameFault.TheVariants as fault
+use Rattle.frame_streams.specs.declared.frame.Came.{Came}
+use Rattle.frame_streams.specs.Frames.{Front, Nothing, Part, Bad, Whole, front_of, Comes, Lacks, IsOf, Arrives}
+use Rattle.frame_streams.specs.Reads.{Took, TookLast}
+use Rattle.sasl_login.specs.declared.login.SessionState.{SessionState}
+use Rattle.sasl_login.specs.declared.login.SessionState.TheVariants.{Known}
 use Rattle.session_pool.specs.declared.respond.SessionAction.{SessionAction}
 use Rattle.session_pool.specs.declared.respond.SessionAction.TheVariants as outcome
 use Rattle.session_pool.specs.declared.end_reason.EndReason.{EndReason}
 use Rattle.session_pool.specs.declared.end_reason.EndReason.TheVariants as why
-use Rattle.session_pool.specs.Frames.{Front, Nothing, Part, Bad, Whole, front_of, Cut, frames_of, frames_by_front}
+use Rattle.session_pool.specs.Frames.{why_none_comes, Cut, frames_of, frames_by_front}
 use Rattle.msg_admin.specs.Request.{request_at}
-use Rattle.session_pool.specs.declared.frame.Came.{Came}
 use Rattle.session_pool.specs.Asks.{Setting, Step, Tells, Submits, Refuses, Garbles, step_if_readable, step_of, events_then, text_then, why_then, asks_of, text_of, end_of, asked_events, text, ending_why, events_held, fresh_state}
-use Rattle.session_pool.specs.Reads.{Took, TookLast}
-use Rattle.session_pool.specs.Turns.{Comes, Lacks, IsOf, Arrives, most_kept, CameOf, Says, Meant, Sends, SendsParts, Finishes, why_of}
+use Rattle.session_pool.specs.Turns.{most_kept, CameOf, Says, Meant, Sends, SendsParts, Finishes, why_of}
 use Rattle.session_pool.specs.Sessions.{is_cause, is_broken, HasCause, Served, Stands, Ended, Goes, Turned, TurnsOn, SessionOf}
 
 -- what the session has by itself leaves the receipts
@@ -221,20 +224,14 @@ unread : (g : Setting) (n limit : ℕ) (s : SessionState) (p rest : List ℕ) (w
     → (ending_why g (suc n) limit s p ≡ w → HasCause g (suc n) limit s p [] [] why.ReadFault) → Ended g (suc n) limit s p rest [] [] why.ReadFault
 unread g n limit s p rest w f e is caused = (lacking g n limit s p w why.ReadFault f e is caused, not_cause g (suc n) limit s (p ++ rest) [] why.ReadFault refl)
 
-no_frame : (g : Setting) (n limit : ℕ) (s : SessionState) (w : EndReason) (p rest : List ℕ) → Lacks limit w p rest → Ended g (suc n) limit s p rest [] [] w
-no_frame g n limit s why.Closed p rest h = lacking_last g n limit s p rest why.Closed Nothing h.0 refl (λ e. (refl, e)) h.1
-no_frame g n limit s why.Cut p rest h = lacking_last g n limit s p rest why.Cut Part h.0 refl (λ e. (refl, e)) h.1
-no_frame g n limit s why.BadFrame p rest h =
+no_frame : (g : Setting) (n limit : ℕ) (s : SessionState) (f : FrameFault) (p rest : List ℕ) → Lacks limit f p rest → Ended g (suc n) limit s p rest [] [] (why_none_comes f)
+no_frame g n limit s fault.Closed p rest h = lacking_last g n limit s p rest why.Closed Nothing h.0 refl (λ e. (refl, e)) h.1
+no_frame g n limit s fault.Cut p rest h = lacking_last g n limit s p rest why.Cut Part h.0 refl (λ e. (refl, e)) h.1
+no_frame g n limit s fault.BadFrame p rest h =
     ended_of g (suc n) limit s p rest [] [] why.BadFrame (λ tail. lacking g n limit s (p ++ tail) why.BadFrame why.BadFrame Bad (h tail) refl (λ e. (refl, e)))
-no_frame g n limit s why.ReadFault p rest (inl h) = unread g n limit s p rest why.Closed Nothing h refl (λ e. (refl, inl e))
-no_frame g n limit s why.ReadFault p rest (inr h) = unread g n limit s p rest why.Cut Part h refl (λ e. (refl, inr e))
-no_frame g n limit s why.NoMemory p rest h = (undone g (suc n) limit s p, not_cause g (suc n) limit s (p ++ rest) [] why.NoMemory refl)
-no_frame g n limit s why.WriteFault p rest h = absurd h
-no_frame g n limit s why.Malformed p rest h = absurd h
-no_frame g n limit s why.Login p rest h = absurd h
-no_frame g n limit s (why.Stopped x) p rest h = absurd h
-no_frame g n limit s why.Limit p rest h = absurd h
-no_frame g n limit s why.TooLong p rest h = absurd h
+no_frame g n limit s fault.ReadFault p rest (inl h) = unread g n limit s p rest why.Closed Nothing h refl (λ e. (refl, inl e))
+no_frame g n limit s fault.ReadFault p rest (inr h) = unread g n limit s p rest why.Cut Part h refl (λ e. (refl, inr e))
+no_frame g n limit s fault.NoMemory p rest h = (undone g (suc n) limit s p, not_cause g (suc n) limit s (p ++ rest) [] why.NoMemory refl)
 
 -- ---- a turn
 
@@ -321,11 +318,11 @@ turned_on g limit most s (Some input) b held held' came old new o r is within (p
     (p, rest, whole, after, turned g limit s frame p rest held held' old new o r comes (meant limit frame came_of) fin)
 
 -- no frame came
-pub turned_off : (g : Setting) (limit : ℕ) (s : SessionState) (a b held : Option (List ℕ)) (old : List ReceiptValue) (w : EndReason)
-    → Took a b (Lacks limit w) → Took a b (TurnsOn g limit s held held old old (Err w))
-turned_off g limit s None b held old w h = tt
-turned_off g limit s (Some input) b held old w (p, rest, whole, after, h) =
-    (p, rest, whole, after, silent g limit s p rest held held old old [] w (Err w) refl refl (sym (append-nil old)) (λ n. no_frame g n limit s w p rest h))
+pub turned_off : (g : Setting) (limit : ℕ) (s : SessionState) (a b held : Option (List ℕ)) (old : List ReceiptValue) (f : FrameFault) (w : EndReason)
+    → w ≡ why_none_comes f → Took a b (Lacks limit f) → Took a b (TurnsOn g limit s held held old old (Err w))
+turned_off g limit s None b held old f w is h = tt
+turned_off g limit s (Some input) b held old f w is (p, rest, whole, after, h) =
+    (p, rest, whole, after, silent g limit s p rest held held old old [] (why_none_comes f) (Err w) refl (ap Err is) (sym (append-nil old)) (λ n. no_frame g n limit s f p rest h))
 
 -- ---- the turns one after the other
 

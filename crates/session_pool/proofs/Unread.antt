@@ -14,13 +14,14 @@ use Rattle.msg_admin.specs.Api.{api_in, api_at}
 use Rattle.msg_admin.specs.Request.{IsRequest, request_at}
 use Rattle.msg_admin.specs.Versions.{header_start, unsupported_at, unsupported_response}
 use Rattle.msg_admin.proofs.MessageLaws.{found_is_request}
-use Rattle.session_pool.specs.LoginMessage.{longest_login}
-use Rattle.session_pool.proofs.Longest.{no_longer}
+use Rattle.sasl_login.specs.LoginMessage.{longest_login}
+use Rattle.sasl_login.specs.Logins.{is_known}
+use Rattle.sasl_login.proofs.Longest.{no_longer}
 use Rattle.settings_text.specs.declared.document.User.{User}
-use Rattle.session_pool.specs.declared.frame.Came.{Came}
-use Rattle.session_pool.specs.declared.login.SessionState.{SessionState}
-use Rattle.session_pool.specs.declared.login.SessionState.TheVariants.{Fresh, Offered, Known}
-use Rattle.session_pool.specs.Asks.{Setting, Step, Tells, Refuses, Garbles, start_of, is_known, is_served, is_login, longest_before_login, logs_in, step_if_readable, step_by_start, step_by_start_if_any, step_by_version, step_of}
+use Rattle.frame_streams.specs.declared.frame.Came.{Came}
+use Rattle.sasl_login.specs.declared.login.SessionState.{SessionState}
+use Rattle.sasl_login.specs.declared.login.SessionState.TheVariants.{Fresh, Offered, Known}
+use Rattle.session_pool.specs.Asks.{Setting, Step, Tells, Refuses, Garbles, start_of, is_served, is_login, longest_before_login, logs_in, step_if_readable, step_by_start, step_by_start_if_any, step_by_version, step_of}
 use Rattle.session_pool.specs.Own.{TellsPassword}
 use Rattle.session_pool.specs.Turns.{most_kept, CameOf}
 use Rattle.session_pool.proofs.Lengths.{unsupported_cut, start_cut, start_read, names_are, at_17, at_18, at_36, this_api, request_short, login_length}

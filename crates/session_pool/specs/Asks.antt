@@ -19,14 +19,14 @@ use Rattle.request_handlers.specs.declared.stop.Stop.{Stop}
 use Rattle.request_handlers.specs.Receipt.{ReceiptValue}
 use Rattle.settings_text.specs.declared.document.User.{User}
 use Rattle.session_pool.specs.declared.context.LoginContext.{LoginContext}
-use Rattle.session_pool.specs.declared.login.SessionState.{SessionState}
-use Rattle.session_pool.specs.declared.login.SessionState.TheVariants.{Fresh, Offered, Known}
+use Rattle.sasl_login.specs.declared.login.SessionState.{SessionState}
+use Rattle.sasl_login.specs.declared.login.SessionState.TheVariants.{Fresh, Offered, Known}
 use Rattle.session_pool.specs.declared.end_reason.EndReason.{EndReason}
 use Rattle.session_pool.specs.declared.end_reason.EndReason.TheVariants.{Malformed as IsMalformed, Login}
 use Rattle.session_pool.specs.Frames.{frames_of}
-use Rattle.session_pool.specs.declared.listed.ListedVersions.{ListedVersions}
-use Rattle.session_pool.specs.Listed.{versions_listed}
-use Rattle.session_pool.specs.LoginMessage.{is_plain, login_of, longest_login}
+use Rattle.sasl_login.specs.declared.listed.ListedVersions.{ListedVersions}
+use Rattle.sasl_login.specs.Listed.{versions_listed}
+use Rattle.sasl_login.specs.LoginMessage.{is_plain, login_of, longest_login}
 
 -- the users who may log in, how versions are listed before that, the host that calls, and whether the desk may answer an event
 -- by a stop
@@ -101,11 +101,6 @@ step_if_readable g s (Ok x) = request_step g s x.0 x.1
 step_if_readable g s (Err e) = Garbles
 
 -- ---- by its first bytes, before a body is read
-
--- a user told the right password
-abbrev pub is_known : SessionState → Bool
-is_known (Known k) = true
-is_known s = false
 
 -- what each request header starts with: the key and the version of its api, and the correlation id
 abbrev pub start_of : List ℕ → Option ((ℤ × ℤ) × ℤ)

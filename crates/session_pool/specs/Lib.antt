@@ -1,17 +1,9 @@
 pub mod Asks
-pub mod Compared
 pub mod Desks
 pub mod Frames
-pub mod Listed
-pub mod ListedLaws
-pub mod LoginMessage
-pub mod Logins
 pub mod Own
-pub mod Plain
-pub mod Reads
 pub mod Responses
 pub mod Sessions
 pub mod Steps
-pub mod Streaming
 pub mod Turns
 pub mod Unread

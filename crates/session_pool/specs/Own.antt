@@ -10,7 +10,7 @@ use Rattle.audit_trail.specs.declared.event.Event.TheVariants.{Ask}
 use Rattle.settings_text.specs.declared.document.User.{User}
 use Rattle.session_pool.specs.Asks.{Setting, asked_events, fresh_state}
 use Rattle.session_pool.specs.Frames.{frames_of}
-use Rattle.session_pool.specs.LoginMessage.{login_of}
+use Rattle.sasl_login.specs.LoginMessage.{login_of}
 
 -- the frame tells a user's password, whose principal this is
 abbrev pub TellsPassword : List User → List ℕ → List ℕ → Type 0

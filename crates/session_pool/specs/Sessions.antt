@@ -5,7 +5,7 @@ use Rattle.msg_admin.specs.Response.{IsTooLong}
 use Rattle.audit_trail.specs.declared.event.Event.{Event}
 use Rattle.request_handlers.specs.declared.stop.Stop.{Stop}
 use Rattle.request_handlers.specs.Receipt.{ReceiptValue}
-use Rattle.session_pool.specs.declared.login.SessionState.{SessionState}
+use Rattle.sasl_login.specs.declared.login.SessionState.{SessionState}
 use Rattle.session_pool.specs.declared.end_reason.EndReason.{EndReason}
 use Rattle.session_pool.specs.declared.end_reason.EndReason.TheVariants as why
 use Rattle.session_pool.specs.Asks.{Setting, asked_events, text, ending_why, events_held, fresh_state}

@@ -1,7 +1,7 @@
--- The steps of a keeper that goes by how many markers are pending.
-use Rattle.std.specs.Prelude.{◌≡◌, ◌<◌, ℕ, Option, Some, None, Result, Ok, Err, ⊤}
+-- What a keeper's steps go by, and those that go by a clock.
+use Rattle.std.specs.Prelude.{◌≡◌, ℕ, zero, suc, Bool, true, not, Option, Some, None, option_map, Result, Ok, Err}
 use Rattle.audit_trail.specs.declared.event.Event.{Event}
-use Rattle.audit_trail.specs.declared.event.Event.TheVariants.{Ask, Mark, Tick}
+use Rattle.audit_trail.specs.declared.event.Event.TheVariants.{Mark, Tick}
 use Rattle.session_pool.specs.declared.end_reason.EndReason.{EndReason}
 use Rattle.session_pool.specs.declared.steps.Step.{Step}
 use Rattle.session_pool.specs.declared.steps.Step.TheVariants as steps
@@ -11,29 +11,24 @@ abbrev pub step_event : Step → Event
 step_event (steps.Tick moment) = Tick moment
 step_event steps.Mark = Mark
 
--- the moment of a tick
-abbrev pub moment_of : Option Step → Option ℕ
-moment_of (Some (steps.Tick moment)) = Some moment
-moment_of _ = None
+-- Whether a keeper goes on after a step: always where it was taken, and else unless it halts then.
+abbrev pub goes_on : Bool → Result ℕ EndReason → Bool
+goes_on halts (Ok left) = true
+goes_on halts (Err why) = not halts
 
--- where so many are owed: a tick where none is, and else a mark
-abbrev pub IsDueAt : ℕ → Event → Type 0
-IsDueAt left (Ask caller client request) = ⊥
-IsDueAt left Mark = 0 < left
-IsDueAt left (Tick moment) = left ≡ 0
+-- ---- steps by a clock: what is remembered is the clock, and how many markers are pending
 
--- the event is due; where the keeper doesn't go by what is owed, each is
-abbrev pub IsDue : Option ℕ → Event → Type 0
-IsDue None e = ⊤
-IsDue (Some left) e = IsDueAt left e
+-- A mark as long as markers are pending. Else a tick of the moment that the clock gives, and no step
+-- where it gives none.
+abbrev pub GivenByClock : {C : Type 0} → (C → Bool → Option ℕ → C → Type 0)
+    → C × ℕ → Bool → Option Step → C × ℕ → Type 0
+GivenByClock gives (clock, zero) done step (later, left) =
+    ((moment : Option ℕ) × gives clock done moment later × (step ≡ option_map steps.Tick moment))
+    × (left ≡ zero)
+GivenByClock gives (clock, suc n) done step (later, left) =
+    (step ≡ Some steps.Mark) × (later ≡ clock) × (left ≡ suc n)
 
--- how many are owed after a step that left so many
-abbrev pub pending_after : Option ℕ → ℕ → Option ℕ
-pending_after None left = None
-pending_after (Some before) left = Some left
-
--- ... and after one that was taken or wasn't
-abbrev pub pending_after_outcome : Option ℕ → Result ℕ EndReason → Option ℕ
-pending_after_outcome None outcome = None
-pending_after_outcome (Some before) (Ok left) = Some left
-pending_after_outcome (Some before) (Err why) = Some before
+-- ... and after the keeper was told how many a step left, or why it wasn't taken
+abbrev pub told_by_clock : {C : Type 0} → C × ℕ → Result ℕ EndReason → C × ℕ
+told_by_clock (clock, before) (Ok left) = (clock, left)
+told_by_clock (clock, before) (Err why) = (clock, before)

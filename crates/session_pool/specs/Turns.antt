@@ -1,42 +1,26 @@
 -- What one frame comes to.
-use Rattle.std.specs.Prelude.{◌≡◌, ◌≤◌, ℕ, ℤ, min, nat_lt, Bool, true, List, [], ◌∷◌, ◌++◌, length, take, Option, None, Result, Ok, Err, ◌⊎◌, if◌then◌else◌}
+use Rattle.std.specs.Prelude.{◌≡◌, ◌≤◌, ℕ, ℤ, min, Bool, true, List, [], ◌∷◌, ◌++◌, length, Option, None, Result, Ok, Err, ◌⊎◌}
 use Rattle.std.specs.Io.KnownBytes.{Appends}
 use Rattle.wire_types.specs.declared.fault.WriteFault.{WriteFault}
 use Rattle.wire_types.specs.declared.fault.WriteFault.TheVariants as faults
 use Rattle.msg_admin.specs.Request.{request_at}
 use Rattle.msg_admin.specs.Response.{response, IsTooLong}
 use Rattle.msg_admin.specs.Versions.{unsupported_response}
+use Rattle.frame_streams.specs.declared.frame.Came.{Came}
+use Rattle.frame_streams.specs.Frames.{IsOf}
 use Rattle.audit_trail.specs.declared.event.Event.{Event}
 use Rattle.request_handlers.specs.declared.stop.Stop.{Stop}
 use Rattle.request_handlers.specs.Receipt.{ReceiptValue}
-use Rattle.session_pool.specs.declared.login.SessionState.{SessionState}
-use Rattle.session_pool.specs.declared.login.SessionState.TheVariants.{Known}
+use Rattle.sasl_login.specs.declared.login.SessionState.{SessionState}
+use Rattle.sasl_login.specs.declared.login.SessionState.TheVariants.{Known}
 use Rattle.settings_text.specs.declared.document.User.{User}
 use Rattle.session_pool.specs.declared.begin.Begun.{Begun}
 use Rattle.session_pool.specs.declared.begin.Begun.TheVariants as begun
-use Rattle.session_pool.specs.declared.frame.Came.{Came}
 use Rattle.session_pool.specs.declared.respond.SessionAction.{SessionAction}
 use Rattle.session_pool.specs.declared.respond.SessionAction.TheVariants as outcome
 use Rattle.session_pool.specs.declared.end_reason.EndReason.{EndReason}
 use Rattle.session_pool.specs.declared.end_reason.EndReason.TheVariants as why
 use Rattle.session_pool.specs.Asks.{Setting, Step, Tells, Submits, Refuses, Garbles, longest_before_login, logs_in, step_if_readable, step_of}
-use Rattle.session_pool.specs.Frames.{Nothing, Part, Bad, Whole, front_of}
-
--- the bytes that were read are a frame, whatever follows
-abbrev pub Comes : ℕ → List ℕ → List ℕ → List ℕ → Type 0
-Comes limit frame read rest = (tail : List ℕ) → front_of limit (read ++ tail) ≡ Whole frame tail
-
--- what is kept of a frame: the whole, or of one with more than so many bytes the first eight
-abbrev pub kept_bytes : ℕ → List ℕ → List ℕ
-kept_bytes most frame = if nat_lt most (length frame) then take 8 frame else frame
-
--- what came is of this frame
-abbrev pub IsOf : ℕ → Came → List ℕ → Type 0
-IsOf most came frame = (came.kept ≡ kept_bytes most frame) × (came.size ≡ length frame)
-
--- the bytes that were read are a frame of which this came, whatever follows
-abbrev pub Arrives : ℕ → ℕ → Came → List ℕ → List ℕ → Type 0
-Arrives limit most came read rest = (frame : List ℕ) × IsOf most came frame × Comes limit frame read rest
 
 -- so many bytes a frame may have that is kept, where none has more than the limit
 abbrev pub most_kept : List User → ℕ → SessionState → ℕ
@@ -46,15 +30,6 @@ most_kept users limit s = min limit (longest_before_login users)
 -- this came of the frame
 abbrev pub CameOf : Setting → ℕ → SessionState → Came → List ℕ → Type 0
 CameOf g limit s came frame = (length frame ≤ limit) × IsOf (most_kept g.users limit s) came frame
-
--- where a frame does not come
-abbrev pub Lacks : ℕ → EndReason → List ℕ → List ℕ → Type 0
-Lacks limit why.Closed read rest = (front_of limit read ≡ Nothing) × (rest ≡ [])
-Lacks limit why.Cut read rest = (front_of limit read ≡ Part) × (rest ≡ [])
-Lacks limit why.BadFrame read rest = (tail : List ℕ) → front_of limit (read ++ tail) ≡ Bad
-Lacks limit why.ReadFault read rest = (front_of limit read ≡ Nothing) ⊎ (front_of limit read ≡ Part)
-Lacks limit why.NoMemory read rest = Unit {0}
-Lacks limit _ read rest = ⊥
 
 -- ---- what comes of a frame
 

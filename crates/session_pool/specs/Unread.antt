@@ -1,8 +1,9 @@
 -- What nobody who has not logged in can have kept or read.
 use Rattle.std.specs.Prelude.{◌≡◌, ◌<◌, ℕ, false, List, length, take}
 use Rattle.settings_text.specs.declared.document.User.{User}
-use Rattle.session_pool.specs.declared.login.SessionState.{SessionState}
-use Rattle.session_pool.specs.Asks.{Setting, is_known, longest_before_login, step_of}
+use Rattle.sasl_login.specs.declared.login.SessionState.{SessionState}
+use Rattle.sasl_login.specs.Logins.{is_known}
+use Rattle.session_pool.specs.Asks.{Setting, longest_before_login, step_of}
 use Rattle.session_pool.specs.Own.{TellsPassword}
 
 -- a frame that is longer than any that is served before a login tells nobody's password

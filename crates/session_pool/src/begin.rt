@@ -6,9 +6,9 @@ ghost use Rattle.msg_admin.specs.Versions.{header_start};
 ghost use Rattle.session_pool.specs.Asks.{Setting, start_of, is_served, is_login};
 ghost use Rattle.session_pool.specs.Turns.{CameOf, IsBegun};
 
-use crate::frame::Came;
-use crate::login::SessionState;
+use frame_streams::Came;
 use msg_admin::unsupported_versions;
+use sasl_login::SessionState;
 use wire_types::{Bytes, Cursor, Malformed};
 
 const SASL_HANDSHAKE: i16 = 17;

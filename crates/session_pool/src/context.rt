@@ -1,8 +1,8 @@
 //! What a session is served with.
 
-use crate::listed::ListedVersions;
 use crate::session::Limits;
-use crate::users::Users;
+use sasl_login::ListedVersions;
+use settings_text::Users;
 use wire_types::Text;
 
 /// What a login goes by: the peer's host, who may log in, and how ApiVersions lists versions before a login.

@@ -1,5 +1,6 @@
 //! Why a session, or the keeper, ends.
 
+use frame_streams::FrameFault;
 use request_handlers::Stop;
 use thiserror::Error;
 
@@ -39,4 +40,22 @@ pub enum EndReason {
     /// A reply is longer than its size field can tell, or a text or list in it than its length field.
     #[error("a reply is longer than a response can be")]
     TooLong,
+}
+
+impl From<FrameFault> for EndReason {
+    ghost use Rattle.std.specs.Prelude.{◌≡◌};
+    ghost use Rattle.session_pool.specs.Frames.{why_none_comes};
+
+    ghost from_gives = { λ fault why. why ≡ why_none_comes fault };
+
+    /// Why a session ends for which no frame comes.
+    fn from(fault: FrameFault) -> EndReason {
+        match fault {
+            FrameFault::Closed => EndReason::Closed,
+            FrameFault::Cut => EndReason::Cut,
+            FrameFault::ReadFault => EndReason::ReadFault,
+            FrameFault::BadFrame => EndReason::BadFrame,
+            FrameFault::NoMemory => EndReason::NoMemory,
+        }
+    }
 }

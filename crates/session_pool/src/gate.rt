@@ -28,7 +28,7 @@ pub trait Gate {
     /// what is kept of the frame, all or its first eight bytes, and whether it is answered. A frame out of order isn't.
     fn refused(&self, _session: u64, _kept: &Bytes, _is_answered: bool) {}
 
-    /// Is called once the session has ended, by those who call `serve_session_in`, not by itself: with the peer's host, the
+    /// Is called once the session has ended, by those who call `serve_session`, not by itself: with the peer's host, the
     /// principal that had logged in, if one had, and why the session ended.
     fn ended(&self, _session: u64, _host: &Text, _who: Option<&Text>, _why: EndReason) {}
 

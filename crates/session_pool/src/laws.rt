@@ -3,7 +3,7 @@
 ghost use Rattle.std.specs.Prelude.{ℕ, List};
 ghost use Rattle.settings_text.specs.declared.document.User.{User};
 ghost use Rattle.session_pool.specs.Asks.{Setting};
-ghost use Rattle.session_pool.specs.declared.login.SessionState.{SessionState};
+ghost use Rattle.sasl_login.specs.declared.login.SessionState.{SessionState};
 ghost use Rattle.session_pool.specs.Own.{AsksAreOwn};
 ghost use Rattle.session_pool.specs.Unread.{LogsNobodyIn, GoesByItsFront};
 

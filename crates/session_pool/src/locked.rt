@@ -1,10 +1,10 @@
 //! A core under a lock.
 
-ghost use Rattle.std.specs.Prelude.{◌≡◌, ◌+◌, ◌≤◌, [], true, Some, IfOk, IfSome, OnOk, OnErr};
+ghost use Rattle.std.specs.Prelude.{◌≡◌, ◌+◌, ◌≤◌, [], true, Some, IfOk, IfSome, IfNone, OnOk, OnErr};
 ghost use Rattle.std.specs.Fn.{FnOnceReturnsAt};
 ghost use Rattle.request_handlers.specs.Bounds.{EventFits};
 ghost use Rattle.request_handlers.specs.Core.{CoreValue, IsHistory};
-ghost use Rattle.request_handlers.specs.Seats.{fresh_seat, most_seats};
+ghost use Rattle.request_handlers.specs.Seats.{BookedValue, fresh_seat, most_seats};
 ghost use Rattle.session_pool.specs.Desks.{IsDeskCore};
 
 use crate::desk::{Desk, DeskLedger};
@@ -45,7 +45,11 @@ impl<L: DeskLedger, R: Wait> LockedDesk<L, R> {
 
     /// A new seat; `None` once 1,048,576 were given.
     pub fn seat(&self) -> Option<Seat<L>>
-        ensures { IfSome result (λ seat. seat ≡ fresh_seat) }
+        ensures some { IfSome result (λ seat. seat ≡ fresh_seat) }
+
+        // What was found under the lock.
+        ensures none { IfNone result
+            ((booked : BookedValue) × (booked.core.settings ≡ L.settings) × (booked.given ≡ most_seats)) }
     {
         self.kept.lock(&self.rt).seat()
     }
@@ -89,7 +93,7 @@ impl<L: DeskLedger, R: Wait> LockedDesk<L, R> {
         ensures last { IfOk result.1 (λ r. result.0.last ≡ Some r) }
         ensures err { OnErr result.1 (result.0 ≡ seat) }
         ensures place { IfOk result.1 (λ r. seat.count ≤ r.place) }
-        ensures owed { K.owed steps.new ≡ K.owed steps.old }
+        ensures state { K.state steps.new ≡ K.state steps.old }
     {
         let mut kept = self.kept.lock(&self.rt);
         steps.before(kept.booked.core());

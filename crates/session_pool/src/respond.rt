@@ -5,24 +5,25 @@ ghost use Rattle.msg_admin.specs.declared.request.TheConstants.{FRAME_LIMIT as L
 ghost use Rattle.msg_admin.specs.Request.{Fits, request_at};
 ghost use Rattle.msg_admin.specs.Versions.{unsupported_response};
 ghost use Rattle.request_handlers.specs.Bounds.{EventFits};
-ghost use Rattle.session_pool.specs.declared.login.SessionState.TheVariants as state;
+ghost use Rattle.sasl_login.specs.declared.login.SessionState.TheVariants as state;
 ghost use Rattle.session_pool.specs.declared.respond.SessionAction.TheVariants as outcome;
 ghost use Rattle.session_pool.specs.Asks.{Tells, Submits, Refuses, setting_of, step_of, step_if_readable, request_step, fresh_step, offered_step, known_step, mechanism_step, logs_in};
-ghost use Rattle.session_pool.specs.LoginMessage.{login_of};
+ghost use Rattle.sasl_login.specs.LoginMessage.{login_of};
 ghost use Rattle.session_pool.specs.Turns.{CameOf, Says, Meant};
 
 use crate::begin::{Begun, begin};
 use crate::context::LoginContext;
 use crate::desk::Desk;
-use crate::frame::Came;
-use crate::listed::ListedVersions;
-use crate::login::{Closed, Fresh, Known, LoginFault, Offered, SessionState};
-use crate::login_answers::{write_handshake, write_login, write_versions};
 use crate::response::Response;
 use crate::session::Progress;
 use audit_trail::Event;
+use frame_streams::Came;
 use msg_admin::{FRAME_LIMIT, Header, Request, read_request, write_unsupported_versions};
 use request_handlers::Stop;
+use sasl_login::{
+    Closed, Fresh, Known, ListedVersions, LoginFault, Offered, SessionState, write_handshake,
+    write_login, write_versions,
+};
 use std::alloc::{AllocError, Global};
 use wire_types::{Bytes, ErrorCode, ReadFault, Text, WriteFault};
 

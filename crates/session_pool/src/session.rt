@@ -2,29 +2,27 @@
 
 ghost use Rattle.std.specs.Prelude.{◌≡◌, ◌+◌, ◌≤◌, vec_len};
 ghost use Rattle.msg_admin.specs.declared.request.TheConstants.{FRAME_LIMIT as LIMIT};
+ghost use Rattle.frame_streams.specs.Readers.{frames_left};
+ghost use Rattle.frame_streams.specs.Reads.{Took, TookLast};
 ghost use Rattle.session_pool.specs.Asks.{setting_of};
-ghost use Rattle.session_pool.specs.declared.listed.ListedVersions.TheVariants.{AsServed};
-ghost use Rattle.session_pool.specs.Reads.{Took, TookLast};
 ghost use Rattle.session_pool.specs.Sessions.{TurnsOn, SessionOf};
 ghost use Rattle.session_pool.specs.Turns.{most_kept, Sends, SendsParts, Finishes, why_of};
 
-use crate::context::{LoginContext, SessionContext};
+use crate::context::SessionContext;
 use crate::desk::Desk;
 use crate::end_reason::EndReason;
-use crate::frame::{Came, FrameReader, ShortFrames};
 use crate::gate::Gate;
-use crate::listed::ListedVersions;
-use crate::login::{Fresh, SessionState};
 use crate::respond::{SessionAction, respond};
 use crate::response::Response;
-use crate::streamed::SendFault;
-use crate::users::Users;
 use byte_streams::write_whole;
+use frame_streams::{Came, FrameReader, SendFault};
 use msg_admin::FRAME_LIMIT;
 use request_handlers::Receipt;
+use sasl_login::{Fresh, SessionState, longest_login};
+use settings_text::Users;
 use std::alloc::Global;
 use std::io::{BufReader, Read, Write};
-use wire_types::{Bytes, Text, WriteFault};
+use wire_types::{Bytes, WriteFault};
 
 /// What a session leaves: a receipt for each event that was answered, in order, its seat, and why it ended.
 #[derive(Drop)]
@@ -136,7 +134,7 @@ fn most_kept(users: &Users, state: &SessionState, limit: u32) -> u32
     if state.is_known() {
         return limit;
     }
-    let login = LONGEST_BEFORE_MESSAGE.saturating_add(users.longest_login());
+    let login = LONGEST_BEFORE_MESSAGE.saturating_add(longest_login(users));
     login.max(LONGEST_HANDSHAKE).min(limit as usize) as u32
 }
 
@@ -172,7 +170,6 @@ fn tell_login<G: Gate>(
 
 /// Reads and answers one frame, and gives the session's next state, or why it ends. The gate is told of the event's receipt and
 /// of a frame that isn't served before the answer is written, and of a login after that.
-#[tactic(auto, using(crate::proofs::Sessions::turned_off))]
 fn turn<S, Rd: Read, Wr: Write, D: Desk<S>, G: Gate>(
     alloc: Global,
     context: &SessionContext<'_, D, G>,
@@ -184,7 +181,7 @@ fn turn<S, Rd: Read, Wr: Write, D: Desk<S>, G: Gate>(
     requires { context.now.limits.frame ≤ LIMIT }
     ensures risen { (D.view result.0.seat).count + vec_len progress.receipts
         ≡ (D.view progress.seat).count + vec_len result.0.receipts }
-    ensures turns { Took (Rd.remaining reader.old.reader) (Rd.remaining reader.new.reader)
+    ensures turns { Took (frames_left Rd.remaining reader.old) (frames_left Rd.remaining reader.new)
         (TurnsOn (setting_of context.now.login D.may_stop) context.now.limits.frame state
         (Wr.contents writer.old) (Wr.contents writer.new) progress.receipts.items
         result.0.receipts.items result.1) }
@@ -194,7 +191,7 @@ fn turn<S, Rd: Read, Wr: Write, D: Desk<S>, G: Gate>(
     let was_known = state.is_known();
     let came = match reader.read(alloc, was_known, most, limit) {
         Ok(came) => came,
-        Err(why) => return (progress, Err(why)),
+        Err(fault) => return (progress, Err(EndReason::from(fault))),
     };
     let place = progress.receipts.len();
     let (progress, outcome) = respond(alloc, login, context.desk, state, &came, progress);
@@ -215,7 +212,7 @@ fn serve<S, Rd: Read, Wr: Write, D: Desk<S>, G: Gate>(
 ) -> SessionEnd<S>
     requires { context.now.limits.frame ≤ LIMIT }
     ensures risen { (D.view result.seat).count ≡ (D.view seat).count + vec_len result.receipts }
-    ensures session { Took (Rd.remaining reader.old.reader) (Rd.remaining reader.new.reader)
+    ensures session { Took (frames_left Rd.remaining reader.old) (frames_left Rd.remaining reader.new)
         (SessionOf (setting_of context.now.login D.may_stop) context.now.limits.frames
         context.now.limits.frame (Wr.contents writer.old) (Wr.contents writer.new)
         result.receipts.items result.why) }
@@ -254,7 +251,7 @@ fn serve<S, Rd: Read, Wr: Write, D: Desk<S>, G: Gate>(
 /// buffer, and dropped with it; each answer of up to 65,536 bytes is one write, where the writer takes it whole. Of the end the
 /// gate isn't told: the caller does that.
 #[tactic(auto, using(crate::proofs::Sessions::nothing_done))]
-pub fn serve_session_in<S, Rd: Read + Drop, Wr: Write, D: Desk<S>, G: Gate>(
+pub fn serve_session<S, Rd: Read + Drop, Wr: Write, D: Desk<S>, G: Gate>(
     alloc: Global,
     context: &SessionContext<'_, D, G>,
     reader: Rd,
@@ -270,12 +267,7 @@ pub fn serve_session_in<S, Rd: Read + Drop, Wr: Write, D: Desk<S>, G: Gate>(
 {
     match BufReader::new(alloc, reader) {
         Ok(reader) => {
-            let mut reader = FrameReader {
-                reader,
-                longest: 0,
-                short: ShortFrames::new(alloc),
-                known: false,
-            };
+            let mut reader = FrameReader::new(alloc, reader);
             serve(alloc, context, &mut reader, writer, seat)
         }
         Err(_) => SessionEnd {
@@ -284,44 +276,4 @@ pub fn serve_session_in<S, Rd: Read + Drop, Wr: Write, D: Desk<S>, G: Gate>(
             why: EndReason::NoMemory,
         },
     }
-}
-
-/// As `serve_session_in`, with its context in single arguments, and each api listed before the login in the versions in which it
-/// is served. `session` is the number by which the gate knows the session.
-pub fn serve_session<S, Rd: Read + Drop, Wr: Write, D: Desk<S>, G: Gate>(
-    alloc: Global,
-    session: u64,
-    reader: Rd,
-    writer: &mut Wr,
-    host: &Text,
-    users: &Users,
-    desk: &D,
-    seat: S,
-    limits: Limits,
-    gate: &G,
-) -> SessionEnd<S>
-    requires { limits.frame ≤ LIMIT }
-    ensures risen { (D.view result.seat).count ≡ (D.view seat).count + vec_len result.receipts }
-    ensures session { TookLast (Rd.remaining reader)
-        (SessionOf (record {
-          users = users.now;
-          listed = AsServed;
-          host = host.now;
-          may_stop = D.may_stop;
-        }) limits.frames limits.frame (Wr.contents writer.old)
-        (Wr.contents writer.new) result.receipts.items result.why) }
-{
-    let listed = ListedVersions::AsServed;
-    let context = SessionContext {
-        session,
-        login: LoginContext {
-            host,
-            users,
-            listed,
-        },
-        limits,
-        desk,
-        gate,
-    };
-    serve_session_in(alloc, &context, reader, writer, seat)
 }

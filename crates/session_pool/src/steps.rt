@@ -1,8 +1,9 @@
 //! Who says what the keeper does next.
 
-ghost use Rattle.std.specs.Prelude.{◌≡◌, ◌<◌, ℕ, Bool, Option, Some, IfSome, is_ok};
-ghost use Rattle.session_pool.specs.declared.steps.Step.TheVariants.{Mark};
-ghost use Rattle.session_pool.specs.Steps.{step_event, moment_of, IsDue, IsDueAt, pending_after_outcome};
+ghost use Rattle.std.specs.Prelude.{◌≡◌, ℕ, Bool, true, Option, Result};
+ghost use Rattle.session_pool.specs.declared.end_reason.EndReason.{EndReason};
+ghost use Rattle.session_pool.specs.declared.steps.Step.{Step};
+ghost use Rattle.session_pool.specs.Steps.{goes_on, GivenByClock, told_by_clock};
 
 use crate::end_reason::EndReason;
 use request_handlers::Core;
@@ -18,26 +19,39 @@ pub enum Step {
 
 /// Gives the keeper its steps, one after the other, and sees the core before and after each.
 pub trait Steps {
-    /// How many markers are pending, where the steps go by that: then a mark is the next one where some are, and else a tick.
-    ghost owed: { Self → Option ℕ };
+    /// What the steps go by.
+    ghost State: { Type 0 };
+
+    /// What these steps go by now.
+    ghost state: { Self → State };
+
+    /// That steps in the first state, told whether all workers have ended, give this one, or none, and are then in the second
+    /// state.
+    ghost gives: { State → Bool → Option Step → State → Type 0 };
+
+    /// The state once the keeper was told how many markers a step left pending, or why it wasn't taken.
+    ghost told: { State → Result ℕ EndReason → State };
+
+    /// Whether the keeper ends where a step isn't taken.
+    ghost halts: { Bool };
 
     /// The next step; after `None` the keeper ends. `done` says that all workers have ended.
     fn next(&mut self, done: bool) -> Option<Step>
-        ensures step { IfSome result (λ step. IsDue (owed self.old) (step_event step)) }
-        ensures owed { owed self.new ≡ owed self.old };
+        ensures { gives (state self.old) done result (state self.new) };
 
     /// Sees the core before the step. It is locked until `after` has returned, so nothing comes between.
     fn before(&mut self, core: &Core)
-        ensures { owed self.new ≡ owed self.old };
+        ensures { state self.new ≡ state self.old };
 
     /// Sees the core after the step, whether it was taken or not.
     fn after(&mut self, core: &Core)
-        ensures { owed self.new ≡ owed self.old };
+        ensures { state self.new ≡ state self.old };
 
     /// Is told what came of the step: how many markers are still to be written, or why it wasn't taken. Gives whether the keeper
     /// goes on.
     fn on_result(&mut self, outcome: Result<u64, EndReason>) -> bool
-        ensures { owed self.new ≡ pending_after_outcome (owed self.old) outcome };
+        ensures told { state self.new ≡ told (state self.old) outcome }
+        ensures goes_on { result ≡ goes_on halts outcome };
 }
 
 /// Gives the moments at which the core is told the time, in milliseconds.
@@ -70,16 +84,19 @@ impl<C: Clock> Clocked<C> {
 }
 
 impl<C: Clock> Steps for Clocked<C> {
-    ghost owed = { λ steps. Some steps.left };
+    ghost State = { C × ℕ };
+
+    ghost state = { λ steps. (steps.clock, steps.left) };
+
+    ghost gives = { GivenByClock C.gives };
+
+    ghost told = { told_by_clock };
+
+    ghost halts = { true };
 
     /// A mark as long as markers are to be written; else a tick of the clock's next moment, or `None` where it has none.
-    fn next(&mut self, done: bool) -> Option<Step>
-        ensures step { IfSome result (λ step. IsDueAt self.old.left (step_event step)) }
-        ensures owed { self.new.left ≡ self.old.left }
-        ensures marked { 0 < self.old.left → result ≡ Some Mark }
-        ensures asked { self.old.left ≡ 0 → C.gives self.old.clock done (moment_of result)
-            self.new.clock }
-    {
+    #[tactic(auto, using(crate::proofs::Clocks::marks, crate::proofs::Clocks::ticks))]
+    fn next(&mut self, done: bool) -> Option<Step> {
         if self.left > 0 {
             return Some(Step::Mark);
         }
@@ -96,10 +113,7 @@ impl<C: Clock> Steps for Clocked<C> {
     fn after(&mut self, _core: &Core) {}
 
     /// Remembers how many markers are still to be written. The keeper ends where the step wasn't taken.
-    fn on_result(&mut self, outcome: Result<u64, EndReason>) -> bool
-        ensures owed { Some self.new.left ≡ pending_after_outcome (Some self.old.left) outcome }
-        ensures goes_on { result ≡ is_ok outcome }
-    {
+    fn on_result(&mut self, outcome: Result<u64, EndReason>) -> bool {
         match outcome {
             Ok(left) => {
                 self.left = left;

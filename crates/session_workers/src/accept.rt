@@ -3,7 +3,7 @@
 use crate::connections::ConnectionOptions;
 use crate::guest::{Counted, Entered, Guest, OpenConnections, Requests};
 use crate::job::Job;
-use admission::{Doorman, Hosts};
+use admission::{Doorman, Hosts, host_of};
 use crossbeam_channel::Sender;
 use deadlines::Times;
 use session_pool::{Limits, ShutdownFlag, Users};
@@ -162,15 +162,14 @@ impl<'x, R: Wait + time::Clock, D: Doorman> Door<'x, R, D> {
     }
 
     /// Makes a session of an accepted connection, unless its host has as many as it may: then it is turned away. The host is the
-    /// peer's address without the port. The error says why the connection couldn't be accepted, or its session not be made.
+    /// peer's address (`host_of`). The error says why the connection couldn't be accepted, or its session not be made.
     fn take(
         &self,
         session: u64,
         taken: io::Result<(TcpStream, SocketAddr)>,
     ) -> io::Result<Taken<'x, R>> {
         let (stream, peer) = taken?;
-        let ip = peer.ip();
-        let host = Text::from_string(format!(in self.alloc; "{ip}")?)?;
+        let host = host_of(self.alloc, peer.ip())?;
         let counted = match self.options.per_host {
             None => None,
             Some(_) => match Counted::enter(self.rt, self.alloc, self.hosts, &host)? {

@@ -1,13 +1,13 @@
 //! Workers for a listener's connections.
 
 ghost use Rattle.std.specs.Prelude.{IfOk};
-ghost use Rattle.session_workers.specs.Ends.{AreEnds};
+ghost use Rattle.session_workers.specs.Ends.{AreEnds, IsOfSteps};
 
 use crate::accept::Door;
 use crate::guest::OpenConnections;
 use crate::patience::Patient;
 use crate::sessions::Ended;
-use crate::workers::{PoolFault, ServerContext, SessionOptions, serve_all_stepped};
+use crate::workers::{PoolFault, ServerContext, SessionOptions, serve_all};
 use admission::{Doorman, Hosts};
 use session_pool::{DeskLedger, Gate, LockedDesk, ShutdownFlag, Steps, Users};
 use std::alloc::Global;
@@ -75,7 +75,7 @@ fn serve_lent<
     door: Door<'x, R, G>,
     steps: K,
 ) -> Result<Ended<L>, PoolFault>
-    ensures { IfOk result (λ ended. AreEnds (K.owed steps) ended.ends.items) }
+    ensures { IfOk result (λ ended. AreEnds (IsOfSteps K.gives K.told K.halts (K.state steps)) ended.ends.items) }
 {
     let (to, from) = crossbeam_channel::bounded(alloc, WAITING).map_err(|_| PoolFault::NoMemory)?;
     let (options, reading, gate) = (door.options, door.reading, door.doorman);
@@ -83,7 +83,7 @@ fn serve_lent<
         thread::scope_env(),
         rt,
         move |scope| -> Result<Ended<L>, PoolFault>
-            ensures { IfOk result (λ ended. AreEnds (K.owed steps) ended.ends.items) }
+            ensures { IfOk result (λ ended. AreEnds (IsOfSteps K.gives K.told K.halts (K.state steps)) ended.ends.items) }
         {
             let accepting = scope.spawn(move || door.accept_all(listener, closing, to));
             if accepting.is_err() {
@@ -97,7 +97,7 @@ fn serve_lent<
                 doorman: gate,
                 reading,
             };
-            let ended = serve_all_stepped(rt, alloc, &server, from, options.workers, steps);
+            let ended = serve_all(rt, alloc, &server, from, options.workers, steps);
             // Without workers nobody reads the lines' end.
             if let Some(closing) = closing {
                 closing.close();
@@ -127,7 +127,7 @@ pub fn serve_connections<
     steps: K,
     gate: &'x G,
 ) -> Result<Ended<L>, PoolFault>
-    ensures { IfOk result (λ ended. AreEnds (K.owed steps) ended.ends.items) }
+    ensures { IfOk result (λ ended. AreEnds (IsOfSteps K.gives K.told K.halts (K.state steps)) ended.ends.items) }
 {
     let Service {
         listener,

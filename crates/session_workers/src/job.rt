@@ -9,7 +9,7 @@ use crate::times::Noting;
 use deadlines::{Notes, Timed, TimedWriter, Times};
 use session_pool::{
     DeskLedger, Gate, Limits, ListedVersions, LockedDesk, LoginContext, SessionContext, Users,
-    serve_session_in,
+    serve_session,
 };
 use std::alloc::Global;
 use std::io::{Read, Write};
@@ -99,7 +99,7 @@ impl<'x, 'r, L: DeskLedger, R: Wait, G: Gate, D, T: Wait + time::Clock> WorkerCo
             desk: self.desk,
             gate: &noting,
         };
-        let end = serve_session_in(self.alloc, &context, reader, &mut writer, seat);
+        let end = serve_session(self.alloc, &context, reader, &mut writer, seat);
         noting.tell_end(self.alloc, session, &host, times, &end);
         Done { end }
     }

@@ -1,8 +1,8 @@
 //! The keeper, which submits ticks and marks.
 
 ghost use Rattle.std.specs.Prelude.{◌≡◌, ◌+◌, vec_len};
-ghost use Rattle.session_pool.specs.Steps.{IsDue, step_event};
-ghost use Rattle.session_workers.specs.Ends.{Keeps, Adds, markers_left};
+ghost use Rattle.session_pool.specs.Steps.{step_event};
+ghost use Rattle.session_workers.specs.Ends.{Adds, Ran, markers_left, why_of};
 
 use audit_trail::Event;
 use msg_admin::Reply;
@@ -43,10 +43,9 @@ fn submit<L: DeskLedger, R: Wait, K: Steps>(
     steps: &mut K,
     receipts: &mut Vec<Receipt>,
 ) -> (Seat<L>, Result<u64, EndReason>)
-    requires { IsDue (K.owed steps.old) (step_event step) }
     ensures risen { result.0.count + vec_len receipts.old ≡ seat.count + vec_len receipts.new }
-    ensures added { Adds (K.owed steps.old) receipts.old.items receipts.new.items result.1 }
-    ensures owed { K.owed steps.new ≡ K.owed steps.old }
+    ensures added { Adds step receipts.old.items receipts.new.items result.1 }
+    ensures state { K.state steps.new ≡ K.state steps.old }
 {
     if receipts.reserve(1).is_err() {
         return (seat, Err(EndReason::NoMemory));
@@ -63,7 +62,9 @@ fn submit<L: DeskLedger, R: Wait, K: Steps>(
 }
 
 /// Why the keeper ends where `steps` has it end after a step with this outcome: `Closed`, or why the step wasn't taken.
-fn why_of(outcome: Result<u64, EndReason>) -> EndReason {
+fn why_of(outcome: Result<u64, EndReason>) -> EndReason
+    ensures { result ≡ why_of outcome }
+{
     match outcome {
         Ok(_) => EndReason::Closed,
         Err(why) => why,
@@ -73,6 +74,7 @@ fn why_of(outcome: Result<u64, EndReason>) -> EndReason {
 /// Hands the event of each step to the desk, one after the other, until there is no next step or `steps` has the keeper end.
 /// `running` is how many workers haven't ended. Gives the keeper's receipts, its seat, and why it ended: why a step wasn't
 /// taken, where `steps` has the keeper end on that, else `Closed`.
+#[tactic(auto, using(crate::proofs::Keeping::begun))]
 pub(crate) fn keep<L: DeskLedger, R: Wait, K: Steps, T: Wait>(
     rt: &T,
     alloc: Global,
@@ -82,7 +84,7 @@ pub(crate) fn keep<L: DeskLedger, R: Wait, K: Steps, T: Wait>(
     running: &AtomicU64,
 ) -> SessionEnd<Seat<L>>
     ensures risen { result.seat.count ≡ seat.count + vec_len result.receipts }
-    ensures kept { Keeps (K.owed steps.old) result.receipts.items }
+    ensures ran { Ran K.gives K.told K.halts (K.state steps.old) result.receipts.items result.why }
 {
     let mut seat = seat;
     let mut receipts = Vec::new(alloc);

@@ -2,9 +2,8 @@
 //! and has it write pending markers.
 //!
 //! `serve_all` starts the workers, each of which takes one job after the other from a channel and serves it at a locked desk, and
-//! keeps the core's time on the calling thread until all of them have ended: a tick at each moment of a clock, and marks after
-//! it. `serve_all_stepped` does the same with a keeper whose `Steps` the caller gives. What a session reads is held to the times
-//! that its peer has (`deadlines`).
+//! meanwhile does the keeper's `Steps` on the calling thread: by a clock a tick at each of its moments, and marks after it. What
+//! a session reads is held to the times that its peer has (`deadlines`).
 //!
 //! When all sessions have ended, `settle` compares their receipts with the trail, value by value and place by place.
 #![tactic(auto)]
@@ -25,4 +24,4 @@ pub use connections::{ConnectionOptions, Service, serve_connections};
 pub use job::Job;
 pub use sessions::Ended;
 pub use settlement::{SettleFault, Settled, settle};
-pub use workers::{PoolFault, ServerContext, SessionOptions, serve_all, serve_all_stepped};
+pub use workers::{PoolFault, ServerContext, SessionOptions, serve_all};

@@ -1,8 +1,8 @@
 //! Worker threads, which take jobs from a channel.
 
-ghost use Rattle.std.specs.Prelude.{◌≡◌, Some, IfOk};
+ghost use Rattle.std.specs.Prelude.{◌≡◌, IfOk};
 ghost use Rattle.request_handlers.specs.Seats.{fresh_seat};
-ghost use Rattle.session_workers.specs.Ends.{AreEnds};
+ghost use Rattle.session_workers.specs.Ends.{AreEnds, IsOfSteps};
 ghost use Rattle.session_workers.specs.Faults.{fault_name};
 
 use crate::job::{Job, WorkerContext, waited};
@@ -12,9 +12,7 @@ use crate::sessions::{Ended, Sessions, Unused};
 use admission::{Doorman, Rate};
 use crossbeam_channel::Receiver;
 use request_handlers::Seat;
-use session_pool::{
-    Clock, Clocked, DeskLedger, Gate, ListedVersions, LockedDesk, ShutdownFlag, Steps,
-};
+use session_pool::{DeskLedger, Gate, ListedVersions, LockedDesk, ShutdownFlag, Steps};
 use std::alloc::{AllocError, Global};
 use std::io::{Read, Write};
 use std::net::OpenStream;
@@ -139,7 +137,7 @@ fn keep_and_join<L: DeskLedger, R: Wait, K: Steps + Drop, T: Threads + Wait>(
     workers: Vec<Worker<L>>,
 ) -> Result<Ended<L>, PoolFault>
     requires { seat ≡ fresh_seat }
-    ensures { IfOk result (λ ended. AreEnds (K.owed steps) ended.ends.items) }
+    ensures { IfOk result (λ ended. AreEnds (IsOfSteps K.gives K.told K.halts (K.state steps)) ended.ends.items) }
 {
     let mut steps = steps;
     let keeper = keep(rt, alloc, desk, seat, &mut steps, running);
@@ -152,7 +150,7 @@ fn keep_and_join<L: DeskLedger, R: Wait, K: Steps + Drop, T: Threads + Wait>(
     }
 }
 
-/// As `serve_all_stepped`, with all that the threads share borrowed for one lifetime. `running` counts the workers that haven't
+/// As `serve_all`, with all that the threads share borrowed for one lifetime. `running` counts the workers that haven't
 /// ended.
 fn serve_lent<
     'x,
@@ -172,14 +170,14 @@ fn serve_lent<
     workers: usize,
     steps: K,
 ) -> Result<Ended<L>, PoolFault>
-    ensures { IfOk result (λ ended. AreEnds (K.owed steps) ended.ends.items) }
+    ensures { IfOk result (λ ended. AreEnds (IsOfSteps K.gives K.told K.halts (K.state steps)) ended.ends.items) }
 {
     let (rt, alloc) = (context.rt, context.alloc);
     thread::scope(
         thread::scope_env(),
         rt,
         move |scope| -> Result<Ended<L>, PoolFault>
-            ensures { IfOk result (λ ended. AreEnds (K.owed steps) ended.ends.items) }
+            ensures { IfOk result (λ ended. AreEnds (IsOfSteps K.gives K.told K.halts (K.state steps)) ended.ends.items) }
         {
             let Some(seat) = context.desk.seat() else {
                 return Err(PoolFault::NoSeat);
@@ -225,9 +223,10 @@ pub struct ServerContext<'x, L: DeskLedger, R: Wait, G, D> {
 }
 
 /// Serves the jobs of the channel by so many worker threads, until the channel is closed and all are served; by fewer, where no
-/// more can be started. Meanwhile the keeper does the steps that `steps` gives it, on the calling thread. Gives the ends, the
-/// keeper's last; after a fault they are given up: `NoMemory`, `NoThread` or `NoSeat`.
-pub fn serve_all_stepped<
+/// more can be started. Meanwhile the keeper does the steps that `steps` gives it, on the calling thread: by a clock (`Clocked`) a
+/// tick at each of its moments, and after each as many marks as markers are pending. Gives the ends, the keeper's last; after a
+/// fault they are given up: `NoMemory`, `NoThread` or `NoSeat`.
+pub fn serve_all<
     L: DeskLedger + Send + Sync,
     R: Wait + Sync,
     Rd: Read + OpenStream + Drop + Send,
@@ -244,7 +243,7 @@ pub fn serve_all_stepped<
     workers: usize,
     steps: K,
 ) -> Result<Ended<L>, PoolFault>
-    ensures { IfOk result (λ ended. AreEnds (K.owed steps) ended.ends.items) }
+    ensures { IfOk result (λ ended. AreEnds (IsOfSteps K.gives K.told K.halts (K.state steps)) ended.ends.items) }
 {
     let SessionOptions { listed, rate } = server.options;
     let running = AtomicU64::new(0);
@@ -259,39 +258,4 @@ pub fn serve_all_stepped<
         pacing: &pacing,
     };
     serve_lent(&context, &jobs, &running, workers, steps)
-}
-
-/// As `serve_all_stepped`, but the keeper goes by a clock: it tells the core each of its moments, and after each has markers
-/// written as long as some are pending. Versions are listed as served, users may ask at any rate, and no doorman is told.
-pub fn serve_all<
-    L: DeskLedger + Send + Sync,
-    R: Wait + Sync,
-    Rd: Read + OpenStream + Drop + Send,
-    Wr: Write + OpenStream + Drop + Send,
-    C: Clock + Drop,
-    G: Gate + Sync,
-    T: Threads + Wait + time::Clock + Sync,
->(
-    rt: &T,
-    alloc: Global,
-    desk: &LockedDesk<L, R>,
-    jobs: Receiver<Job<Rd, Wr>>,
-    workers: usize,
-    clock: C,
-    gate: &G,
-) -> Result<Ended<L>, PoolFault>
-    ensures { IfOk result (λ ended. AreEnds (Some 0) ended.ends.items) }
-{
-    let reading = ShutdownFlag::new();
-    let server = ServerContext {
-        options: SessionOptions {
-            listed: ListedVersions::AsServed,
-            rate: Rate::ANY,
-        },
-        desk,
-        gate,
-        doorman: &(),
-        reading: &reading,
-    };
-    serve_all_stepped(rt, alloc, &server, jobs, workers, Clocked::new(clock))
 }

@@ -8,7 +8,7 @@ ghost use Rattle.settings_text.specs.Document.{Settles, checked_document, keyed_
 use crate::fault::{SettingsFault, text_fault};
 use crate::fields::FieldFault;
 use crate::rows::document;
-use crate::users::CheckedUsers;
+use crate::users::Users;
 use settings::{CheckedSettings, Settings};
 use std::alloc::Global;
 use std::fmt;
@@ -35,7 +35,7 @@ impl fmt::Debug for User {
 /// What a settings text sets: the users, and the settings of the core.
 #[derive(Debug, Drop)]
 pub struct Document {
-    pub users: CheckedUsers,
+    pub users: Users,
     pub settings: CheckedSettings,
 }
 
@@ -60,7 +60,7 @@ fn settle(alloc: Global, document: UncheckedDocument) -> Result<Document, Settin
     ensures { Settles (checked_document document) result }
 {
     let UncheckedDocument { users, settings } = document;
-    let users = match CheckedUsers::of(alloc, users) {
+    let users = match Users::new(alloc, users) {
         Ok(users) => users,
         Err(fault) => return Err(fault),
     };

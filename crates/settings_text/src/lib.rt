@@ -13,4 +13,4 @@ pub use document::{Document, User, document_of_text};
 pub use doubts::warnings;
 pub use fault::SettingsFault;
 pub use sentences::explain;
-pub use users::CheckedUsers;
+pub use users::Users;

@@ -58,7 +58,7 @@ fn row<'a>(value: &'a Value, keys: &[&str]) -> Result<&'a Table, FieldFault>
 }
 
 /// Reads a `[[user]]`: a name and a password. The fault is `Key` if the value is no table, or a key is missing, unknown or no
-/// text, `NoMemory` on an allocation failure. Empty texts and NULs aren't refused here (see `CheckedUsers`).
+/// text, `NoMemory` on an allocation failure. Empty texts and NULs aren't refused here (see `Users`).
 fn user(alloc: Global, value: &Value) -> Result<User, FieldFault>
     ensures { Reads (λ x. x) (user_of (view value.now)) result }
 {

@@ -1,6 +1,6 @@
 //! Who may log in.
 
-ghost use Rattle.std.specs.Prelude.{◌≡◌, ◌==◌, true, not, Ok, Err, if◌then◌else◌, IfOk};
+ghost use Rattle.std.specs.Prelude.{◌≡◌, ◌==◌, true, not, length, Ok, Err, if◌then◌else◌, IfOk};
 ghost use Rattle.std.specs.List.{list_all};
 ghost use Rattle.settings_text.specs.declared.fault.SettingsFault.TheVariants as faults;
 ghost use Rattle.settings_text.specs.Users.{is_word, is_user, are_distinct, are_users, Admits};
@@ -12,38 +12,38 @@ use std::collections::BTreeSet;
 use std::marker::Model;
 use wire_types::{Items, Text};
 
-/// Users of whom each may log in: no name or password is empty or holds a NUL, and no name stands twice.
+/// The users who may log in: no name or password is empty or holds a NUL, and no name stands twice.
 #[derive(Debug)]
-pub struct CheckedUsers {
+pub struct Users {
     users: Items<User>,
 }
 
-impl Model for CheckedUsers {
+impl Model for Users {
     ghost use Rattle.std.specs.Prelude.{◌≡◌, true, List};
     ghost use Rattle.settings_text.specs.declared.document.User.{User};
     ghost use Rattle.settings_text.specs.Users.{are_users};
 
     ghost Value = { List User };
 
-    ghost view = { λ c. c.users };
+    ghost view = { λ u. u.users };
 
-    ghost invariant = { λ c. are_users c.users ≡ true };
+    ghost invariant = { λ u. are_users u.users ≡ true };
 }
 
-impl Drop for CheckedUsers {
+impl Drop for Users {
     fn drop(self) {
-        let CheckedUsers { users: _users } = self;
+        let Users { users: _users } = self;
     }
 }
 
-impl CheckedUsers {
-    /// The users, checked. The fault is `User` if a name or password is empty or holds a NUL, or a name stands twice, and
+impl Users {
+    /// Checks the users. The fault is `User` if a name or password is empty or holds a NUL, or a name stands twice, and
     /// `NoMemory` on an allocation failure.
-    pub fn of(alloc: Global, users: Items<User>) -> Result<CheckedUsers, SettingsFault>
+    pub fn new(alloc: Global, users: Items<User>) -> Result<Users, SettingsFault>
         ensures { Admits (if are_users users then Ok users else Err faults.User) result }
     {
         match are_users(alloc, users.as_slice()) {
-            Ok(true) => Ok(CheckedUsers { users }),
+            Ok(true) => Ok(Users { users }),
             Ok(false) => Err(SettingsFault::User),
             Err(_) => Err(SettingsFault::NoMemory),
         }
@@ -57,13 +57,11 @@ impl CheckedUsers {
         self.users.as_slice()
     }
 
-    /// Returns the users as a plain list, in the order of the settings.
-    pub fn into_users(self) -> Items<User>
-        ensures value { result ≡ self }
-        ensures users { are_users result ≡ true }
+    /// How many users there are.
+    pub fn len(&self) -> usize
+        ensures { result ≡ length self.now }
     {
-        let CheckedUsers { users } = self;
-        users
+        self.users.len()
     }
 }
 

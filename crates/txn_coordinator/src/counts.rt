@@ -6,13 +6,13 @@ ghost use Rattle.txn_coordinator.specs.Warrants.{has_pending_marker};
 ghost use Rattle.txn_coordinator.specs.Kept.{count_of, has_count, pending_count_of};
 
 use crate::marker::PendingMarker;
+use indexmap::IndexMap;
 use std::alloc::{AllocError, Global};
-use std::collections::HashMap;
 use std::hash::RandomState;
 use wire_types::{Shared, Text};
 
 /// The number of pending markers under each transactional id.
-pub(crate) type Counts = HashMap<String, usize, RandomState>;
+pub(crate) type Counts = IndexMap<String, usize, RandomState>;
 
 /// Whether a marker is pending for the transactional id.
 pub(crate) fn owes_any(counts: &Counts, id: &Text) -> bool

@@ -6,8 +6,9 @@ ghost use Rattle.txn_coordinator.specs.Warrants.{has_pending_marker};
 
 use crate::counts::{Counts, enter_all, lower, owes_any, raise_all};
 use crate::marker::PendingMarker;
+use indexmap::IndexMap;
 use std::alloc::{AllocError, Global};
-use std::collections::{HashMap, VecDeque};
+use std::collections::VecDeque;
 use std::hash::RandomState;
 use std::marker::Model;
 use wire_types::{Items, Shared, Text};
@@ -38,7 +39,7 @@ impl PendingMarkers {
     {
         PendingMarkers {
             queue: VecDeque::new(alloc),
-            counts: HashMap::with_hasher(alloc, hasher),
+            counts: IndexMap::with_hasher(alloc, hasher),
         }
     }
 

@@ -51,6 +51,20 @@ fn is_found(alloc: Global, log: &Log, offset: i64) -> bool {
     }
 }
 
+/// No search among a thousand batches compares more than ten of them with the offset, and some search compares ten.
+#[test]
+fn a_search_among_a_thousand_batches_takes_ten_comparisons(rt: HostRuntime) -> Result<(), Fail> {
+    let log = thousand(rt.alloc())?;
+    let mut most = 0;
+    for offset in -1..4 * PAIRS + 1 {
+        let comparisons = log.comparisons_for(offset);
+        assert!(rt; comparisons <= 10, "{offset}: {comparisons}");
+        most = most.max(comparisons);
+    }
+    assert!(rt; most == 10);
+    Ok(())
+}
+
 /// Each offset of a thousand batches is found, and the end, after which there is none.
 #[test]
 fn each_offset_of_a_thousand_batches_is_found(rt: HostRuntime) -> Result<(), Fail> {

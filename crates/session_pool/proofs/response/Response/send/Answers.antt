@@ -1,7 +1,8 @@
 use Rattle.std.proofs.Common.{◌++◌, Option, ap, sym, ◌∙◌}
 use Rattle.msg_admin.specs.declared.reply.Reply.{Reply}
-use Rattle.session_pool.specs.Responses.{topics_of, rest_of}
-use Rattle.session_pool.proofs.Wrote.{wrote_both}
+use Rattle.frame_streams.specs.Responses.{topics_of}
+use Rattle.frame_streams.proofs.Wrote.{wrote_both}
+use Rattle.session_pool.specs.Responses.{rest_of}
 use Rattle.session_pool.proofs.response.Response.send.Goals as goal
 
 pub returns-in-Some : goal.returns-in-Some

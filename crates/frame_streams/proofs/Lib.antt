@@ -1,0 +1,5 @@
+pub mod Bytes
+pub mod Fronts
+pub mod Responses
+pub mod Streaming
+pub mod Wrote

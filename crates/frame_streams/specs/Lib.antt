@@ -1,0 +1,5 @@
+pub mod Frames
+pub mod Readers
+pub mod Reads
+pub mod Responses
+pub mod Streaming

@@ -1,0 +1,14 @@
+//! The log for an operator, from a message to the lines that are written of it.
+//!
+//! Messages wait in a queue, each with its moment (`Queued`), so that nobody who has something to say waits for whoever reads the
+//! log. `LogWriter` writes them in a thread of its own: with time and level where that is asked for, and of sessions of which the
+//! same is said how many they were.
+#![tactic(auto)]
+
+mod log_message;
+mod log_writer;
+mod repeats;
+mod stamps;
+
+pub use log_message::{Level, LogMessage, Queued};
+pub use log_writer::LogWriter;

@@ -1,7 +1,0 @@
-use Rattle.std.proofs.Common.{[], append-nil, ◌∙◌}
-use Rattle.msg_data.specs.Metadata.{topic}
-use Rattle.session_pool.proofs.Streaming.{gathered_first}
-use Rattle.session_pool.proofs.streamed.TopicInfoStreamed.stream.Goals as goal
-
-pub returns : goal.returns
-returns g c = gathered_first _ _ c.args.gathered.now.items (topic.written c.args.self.now) [] _ c.put.new.out.items _ c.spill_enough.result (c.in_ok-put.ensures.spelled.1 ∙ topic.puts _ _) (append-nil _) c.spill_enough.ensures
