@@ -1,12 +1,15 @@
-# `make run` answers the shipped example, `make serve` serves clients over TCP, and `make prove` proves and builds the program.
-# `make steer` serves them as lines of standard input have it.
-# `make test` is the gate, and `make test K=fencing` runs the cases of tests/ that have fencing in their names. They are those
-# that `python3 -m unittest discover -s tests -t .` finds.
-# `make check` is what takes minutes: it lays out and checks the crates that changed since the last commit, or since another one,
-# as in `make check SINCE=HEAD~3`, compiles the program, and runs the quick tests.
+# `make run` answers the shipped example, `make serve` serves clients over TCP, and `make steer` serves them as lines of standard
+# input have it: by the proved program, or by one that they compile without a proof. `make build` builds that one in minutes, and
+# `make prove` proves and builds the program.
+# `make test` takes minutes: it runs the tests over the proved program, or over one that it compiles without a proof, and its last
+# line says over which. `make test K=fencing` runs the cases of tests/ that have fencing in their names. They are those that
+# `python3 -m unittest discover -s tests -t .` finds.
+# `make verify` is the gate: it proves all, tries the mutants and the edits that tests have to fail, and runs all tests.
+# `make check` takes minutes too: it lays out and checks the crates that changed since the last commit, or since another one, as
+# in `make check SINCE=HEAD~3`, compiles the program, and runs the quick tests.
 # `make mutants` tries the mutants that the gate has no time for: of each crate, or of those named, as in
 # `make mutants CRATES="walk authorizer"`.
-.PHONY: run serve steer prove test check mutants help
+.PHONY: run serve steer build prove test verify check mutants help
 
 SINCE ?= HEAD
 
@@ -16,18 +19,20 @@ run:
 serve:
 	@tools/serve_example.py
 
-steer:
+steer: build
 	@./kbroker serve --listen 127.0.0.1:9092 --workers 16 --settings examples/steered.toml --control --librdkafka
+
+build:
+	@tools/build.py
 
 prove:
 	@tools/prove.py
 
 test:
-ifdef K
-	@python3 -m tests.harness -k "$(K)"
-else
+	@tools/run_tests.py $(if $(K),-k "$(K)")
+
+verify:
 	@tools/gate.py
-endif
 
 check:
 	@tools/check.py "$(SINCE)"

@@ -3,23 +3,19 @@
 
 It lays out the crates that changed since a commit, in the working tree too, checks each of them, compiles the program without
 a proof, and runs the tests that take seconds over what was compiled. All failures are told, and the status is 1 where there are
-any. What was compiled is out/unproved/kbroker, which has the checks of `rt try`: it is slower than the program that is proved.
+any. What was compiled is out/unproved/kbroker (tools/unproved.py).
 """
 
 import argparse
 import os
-import shutil
 import subprocess
 import sys
-import time
 
-from processes import children_of, processes
-from program import NAME, ROOT, crates_list
+import processes
+from program import ROOT, crates_list
+from prove import end_on_signals
+from unproved import UNPROVED, compiles
 
-SETTINGS = ROOT / "examples/server.toml"
-UNPROVED = ROOT / "out/unproved" / NAME
-# `rt try` runs what it has compiled by the loader, in the folder of that file.
-LOADER, COMPILED = "ld-linux", "program"
 # What takes seconds over it: the others refuse memory, wait for times, answer very many lines, or keep all processors busy.
 QUICK = (
     "tests.package",
@@ -54,45 +50,11 @@ def changed_crates(since):
 def is_well(words, folder, **more):
     """Whether a command ends well."""
     say(f"{' '.join(map(str, words))} in {folder.relative_to(ROOT)}")
-    return subprocess.run(words, cwd=folder, stdin=subprocess.DEVNULL, **more).returncode == 0
-
-
-def below(top):
-    """The processes below one."""
-    children, found, left = children_of(processes()), [], [top]
-    while left:
-        more = children.get(left.pop(), [])
-        found, left = [*found, *more], [*left, *more]
-    return found
-
-
-def keep_compiled(process):
-    """Keeps what a `rt try` has compiled, once that runs. Gives whether it does."""
-    while process.poll() is None:
-        for it in below(process.pid):
-            try:
-                if os.path.basename(os.readlink(f"/proc/{it}/exe")).startswith(LOADER):
-                    shutil.copy(f"/proc/{it}/cwd/{COMPILED}", UNPROVED)
-                    return True
-            except OSError:
-                continue  # it has ended
-        time.sleep(0.1)
-    return False
-
-
-def compiles():
-    """Whether the program compiles without a proof, which is kept."""
-    say("rt try in crates/kbroker, which takes minutes")
-    UNPROVED.parent.mkdir(parents=True, exist_ok=True)
-    UNPROVED.unlink(missing_ok=True)
-    with SETTINGS.open("rb") as given:
-        words = ["rt", "try", "--", "serve", "--listen", "127.0.0.1:0"]
-        process = subprocess.Popen(words, cwd=ROOT / "crates" / NAME, stdin=given)
+    process = subprocess.Popen([*processes.BOUND, *words], cwd=folder, stdin=subprocess.DEVNULL, **more)
     try:
-        return keep_compiled(process)
+        return process.wait() == 0
     finally:
-        process.terminate()
-        process.wait()
+        processes.end(process)
 
 
 def main():
@@ -100,8 +62,10 @@ def main():
     parser = argparse.ArgumentParser(description=does)
     parser.add_argument("since", nargs="?", default="HEAD", metavar="COMMIT", help="HEAD, if none is named")
     crates = changed_crates(parser.parse_args().since)
+    end_on_signals()
     failed = [f"{name} isn't laid out" for name in crates if not is_well(["rt", "fmt"], ROOT / "crates" / name)]
     failed += [f"{name} isn't proved" for name in crates if not is_well(["rt", "check"], ROOT / "crates" / name)]
+    say("rt try in crates/kbroker, which takes minutes")
     if compiles():
         words, where = [sys.executable, "-m", "tests.harness", *QUICK], {**os.environ, "KBROKER": str(UNPROVED)}
         failed += [] if is_well(words, ROOT, env=where) else ["a quick test fails"]

@@ -1,31 +1,28 @@
 #!/usr/bin/env python3
 """Tries the extended set of mutants, crates/NAME/mutants/*.edit: `make mutants`.
 
-A mutant is an edit of one function's body, which its contract has to refuse. `rt ci` tries those of must-fail/ at each
-gate. These are more of the same kind, for whoever changes a crate: `tools/mutants.py --both walk` tries both sets of the
-crate walk, and with no name all crates are tried. They are tried as `rt must-fail` tries them, over a copy of the
-repository, where a crate's mutants stand in the place of must-fail/; but those of different functions in one check, where
-that shows each of them refused (tools/try_mutants.py), and with `--alone` each in a check of its own. What is printed is
-each mutant that the prover didn't refuse, or refused for no more than a name in a proof file. What the crates stand on is
+A mutant is an edit of one function's body, which its contract has to refuse. The gate tries those of must-fail/ and of
+gate-mutants/. These are more of the same kind, for whoever changes a crate: `tools/mutants.py --both walk` tries all of the
+crate walk, and with no name all crates are tried. Those of different functions are tried in one check, where
+that shows each of them refused (tools/try_mutants.py), and with `--alone` each as `rt must-fail` tries it. What is printed is
+each mutant that the prover didn't refuse, or refused for no more than a name in a proof file. The crates are
 proved first, as by `make prove`.
 """
 
 import argparse
-import json
 import os
-import re
 import shutil
 import subprocess
 import sys
-import tempfile
 import time
-from pathlib import Path
 
+import edits
+import processes
+import refusals
 from program import ROOT, crates_list, crates_of
-from prove import NotProved, copy_crates, end_on_signals, hold_alone, prove
+from prove import NotProved, end_on_signals, hold_alone, prove
 
-WITHOUT_NAME = "only because a proof file names what the edit took away"
-SETS = ("mutants", "must-fail")
+SETS = edits.MUTANTS, edits.TOGETHER, edits.MUST_FAIL
 TRY_MUTANTS = ROOT / "tools/try_mutants.py"
 MEMORY_OF_CRATE = 4e9  # bytes; four crates at a time were seen to take 10.7 GB
 
@@ -33,32 +30,22 @@ MEMORY_OF_CRATE = 4e9  # bytes; four crates at a time were seen to take 10.7 GB
 def mutants_of(name, sets):
     """The mutants of a crate in these sets, by their names."""
     found = {}
-    for folder in sets:
-        for edit in sorted((ROOT / "crates" / name / folder).glob("*.edit")):
-            if edit.name in found:
-                sys.exit(f"mutants: {name}/{edit.name} stands in both sets")
-            found[edit.name] = edit
+    for edit in (it for kind in sets for it in kind.edits([name])):
+        if edit.name in found:
+            sys.exit(f"mutants: {name}/{edit.name} stands in two sets")
+        found[edit.name] = edit
     return found
 
 
 def lay_out(copy, mutants):
-    """Makes a copy of these crates and of those below, with the libraries of what they stand on and with these mutants."""
+    """Proves these crates in a copy of them and of those below, where their libraries stay, and lays their mutants beside it."""
     copy.mkdir()
-    below = {it for name in mutants for it in crates_of([name])[:-1]}
-    if below:
-        prove(sorted(below), copy)
-    copy_crates(mutants, copy)
+    prove(sorted(mutants), copy)
     for name, found in mutants.items():
-        folder = copy / "crates" / name / "must-fail"
-        folder.mkdir()
+        folder = copy.parent / "mutants" / name
+        folder.mkdir(parents=True)
         for edit in found.values():
             shutil.copy(edit, folder)
-
-
-def at_once():
-    """How many crates to try at a time, as processors and memory allow."""
-    free = 1024 * int(re.search(r"^MemAvailable:\s+(\d+)", Path("/proc/meminfo").read_text(), re.M)[1])
-    return max(1, min(len(os.sched_getaffinity(0)), int(free / MEMORY_OF_CRATE)))
 
 
 class Trial:
@@ -70,7 +57,7 @@ class Trial:
         with self.log.open("w") as log:
             # what a check leaves in its temporary folders when it is ended goes with the room
             self.process = subprocess.Popen(
-                [sys.executable, TRY_MUTANTS, room / "copy", name, *options],
+                [*processes.BOUND, sys.executable, TRY_MUTANTS, room / "copy", name, room / "mutants" / name, *options],
                 env={**os.environ, "TMPDIR": str(room / "tmp")},
                 stdin=subprocess.DEVNULL,
                 stdout=log,
@@ -79,30 +66,26 @@ class Trial:
 
     def stop(self):
         """Ends it before it is done."""
-        self.process.kill()
-        self.process.wait()
+        processes.end(self.process)
 
     def told(self):
-        """What was said of each mutant, by its name: whether it was refused, and how."""
-        lines = self.log.read_text(errors="replace").splitlines()
-        return dict(json.loads(it) for it in lines if it.startswith("["))
+        """What was said, and of it what is no plain refusal, by the names of mutants."""
+        said = self.log.read_text(errors="replace")
+        return said, refusals.faults_of(said, {f"{self.name}/{it}" for it in self.mutants})
 
     def judge(self):
-        """Prints what is no plain refusal, and returns how many mutants were not refused."""
-        told, failed = self.told(), 0
-        for name, edit in self.mutants.items():
-            is_refused, text = told.get(name, (False, "NOT TRIED"))
-            failed += not is_refused
-            if not is_refused or WITHOUT_NAME in text:
-                print(f"{edit.parent.name} {self.name}/{name}: {text}", flush=True)
-        if any(it not in told for it in self.mutants):
-            print("".join(self.log.read_text(errors="replace").splitlines(keepends=True)[-10:]))
-        return failed
+        """Prints what is no plain refusal, and returns how many these are."""
+        said, faults = self.told()
+        for name, text in faults.items():
+            print(f"mutants: {name}: {text}", flush=True)
+        if refusals.NOTHING_SAID in faults.values():
+            print("".join(said.splitlines(keepends=True)[-10:]))
+        return len(faults)
 
 
 def try_side_by_side(mutants, room, options):
     """Tries each crate's mutants, some crates at a time and first those with most mutants, and returns what failed."""
-    left, lanes, running = sorted(mutants, key=lambda it: -len(mutants[it])), at_once(), []
+    left, lanes, running = sorted(mutants, key=lambda it: -len(mutants[it])), processes.at_once(MEMORY_OF_CRATE), []
     started, done, seen, failed = time.monotonic(), 0, 0, 0
     try:
         while left or running:
@@ -119,7 +102,7 @@ def try_side_by_side(mutants, room, options):
         for trial in running:
             trial.stop()
     minutes = (time.monotonic() - started) / 60
-    print(f"mutants: {seen} of {done} crates were tried in {minutes:.1f} minutes, and {failed} were not refused")
+    print(f"mutants: {seen} of {done} crates were tried in {minutes:.1f} minutes, and {failed} were not plainly refused")
     return failed
 
 
@@ -127,8 +110,8 @@ def words_given():
     """The crates that are named, all of them if none is, their sets of mutants, and the options for each copy."""
     parser = argparse.ArgumentParser(description="Tries mutants, each of which the prover has to refuse.")
     parser.add_argument("crates", nargs="*", metavar="CRATE", help="whose mutants are tried; all, if none is named")
-    parser.add_argument("--both", action="store_true", help="those of must-fail/ too, which the gate tries")
-    parser.add_argument("--alone", action="store_true", help="each in a check of its own")
+    parser.add_argument("--both", action="store_true", help="those too that the gate tries")
+    parser.add_argument("--alone", action="store_true", help="each by a check of its whole crate")
     given = parser.parse_args()
     unknown = {*given.crates} - {*crates_list()}
     if unknown:
@@ -144,8 +127,7 @@ def main():
         sys.exit("mutants: these crates have none")
     end_on_signals()
     held = hold_alone()
-    with tempfile.TemporaryDirectory(prefix="kbroker-mutants-") as folder:
-        room = Path(folder)
+    with processes.room("kbroker-mutants-") as room:
         try:
             lay_out(room / "copy", mutants)
         except NotProved as error:

@@ -1,10 +1,11 @@
 #!/usr/bin/env python3
-"""Says whether the proved program is built from the sources as they stand; `./kbroker` asks it before each run.
+"""Says whether the proved program is built from the sources as they stand; what measures it asks it before each run.
 
 Where it is not, a sentence on standard error says what to do, and the status is 3.
 """
 
 import os
+import re
 import sys
 from pathlib import Path
 
@@ -13,8 +14,9 @@ NAME = "kbroker"
 PROGRAM = ROOT / "crates" / NAME / "out" / NAME
 PARTS = ("src", "specs", "proofs")
 NOT_BUILT = 3
-# How long `make prove` takes where nothing is built.
-PROVING_TIME = "60 to 100 minutes on 4 processors"
+# The page that says how long things take, and its row of `make prove` where nothing is built.
+BUILD_PAGE = ROOT / "docs/BUILD.md"
+PROVING = re.compile(r"^\| `make prove` where nothing is built \| (.+?) \|$", re.M)
 
 
 def crates_list():
@@ -41,10 +43,11 @@ def crates_of(names):
     return found
 
 
-def changed_since(built):
-    """Whether a source of the program is newer than this time, or a folder, as after a file was removed from it."""
+def changed_since(built, name=NAME):
+    """Whether a source of the program is newer than this time, or a folder, as after a file was removed from it; or of another
+    crate."""
     paths = [ROOT / "crates.txt"]
-    for crate in crates_of([NAME]):
+    for crate in crates_of([name]):
         for part in PARTS:
             for folder, _, files in os.walk(ROOT / "crates" / crate / part):
                 paths += [folder, *(f"{folder}/{it}" for it in files)]
@@ -60,22 +63,17 @@ def what_lacks():
     return None
 
 
-def tell_unproved():
-    """Tells that a run is of the sources without a proof, and what proves them."""
-    print(
-        "kbroker: this run is not proved, and takes some minutes to compile: "
-        f"`make prove` proves and builds the program, in about {PROVING_TIME}",
-        file=sys.stderr,
-        flush=True,
-    )
+def proving_time():
+    """How long `make prove` takes where nothing is built, as the page says."""
+    found = PROVING.search(BUILD_PAGE.read_text()) if BUILD_PAGE.is_file() else None
+    return found[1] if found else "an hour or more"
 
 
 def main():
     lacks = what_lacks()
     if lacks:
         print(
-            f"kbroker: {lacks}: `make prove` proves and builds it (about {PROVING_TIME} where nothing is built),"
-            " and `make run` answers the example without a proof",
+            f"kbroker: {lacks}: `make prove` proves and builds it (in {proving_time()} where nothing is built)",
             file=sys.stderr,
         )
         sys.exit(NOT_BUILT)

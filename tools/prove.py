@@ -14,15 +14,16 @@ import shutil
 import signal
 import subprocess
 import sys
-import tempfile
 import time
 from pathlib import Path
 
+import processes
 from program import NAME, PROGRAM, ROOT, crates_of, what_lacks
 
 BEGINS = re.compile(r"^== (\w+)$")
 ENDS = re.compile(r"^rt: (\w+) (proved|NOT PROVED|is kept)\b")
 TOLD = 20  # lines of the log of a crate that isn't proved
+SIGNALS = signal.SIGINT, signal.SIGTERM, signal.SIGHUP
 LEFT_OUT = shutil.ignore_patterns("out", "must-fail")
 
 
@@ -83,12 +84,13 @@ def prove(names, room, *flags):
         raise NotProved("the toolchain's command rt is not on the PATH")
     crates = copy_crates(names, room)
     said = {"stdin": subprocess.DEVNULL, "stdout": subprocess.PIPE, "stderr": subprocess.STDOUT}
-    process = subprocess.Popen(["rt", "ci", *flags], cwd=room, text=True, errors="replace", **said)
-    try:
-        refused = follow((it.replace(str(room), str(ROOT)) for it in process.stdout), crates)
-    finally:
-        process.terminate()  # with all that it has started, where it hasn't ended
-        status = process.wait()
+    with processes.room("kbroker-files-") as files:
+        said["env"] = {**os.environ, "TMPDIR": str(files)}
+        process = subprocess.Popen([*processes.BOUND, "rt", "ci", *flags], cwd=room, text=True, errors="replace", **said)
+        try:
+            refused = follow((it.replace(str(room), str(ROOT)) for it in process.stdout), crates)
+        finally:
+            status = processes.end(process)  # with all that it has started, where it hasn't ended
     if refused:
         logs = ", ".join(str(log_of(it).relative_to(ROOT)) for it in refused)
         raise NotProved(f"{', '.join(refused)} {'is' if len(refused) == 1 else 'are'} not proved: see {logs}")
@@ -117,10 +119,21 @@ def hold_alone():
     return held
 
 
+def pass_over_signals():
+    """Has signals do nothing to this process. Those that it starts don't ignore them, as they would if it did."""
+    for it in SIGNALS:
+        signal.signal(it, lambda *_: None)
+
+
 def end_on_signals():
-    """Has a signal end this process by way of its `finally` blocks."""
-    for it in (signal.SIGINT, signal.SIGTERM, signal.SIGHUP):
-        signal.signal(it, lambda number, _: sys.exit(128 + number))
+    """Has the first signal end this process by way of its `finally` blocks, in which no other one disturbs it."""
+
+    def end(number, _):
+        pass_over_signals()
+        sys.exit(128 + number)
+
+    for it in SIGNALS:
+        signal.signal(it, end)
 
 
 def main():
@@ -134,12 +147,12 @@ def main():
         return
     end_on_signals()
     hold_alone()
-    with tempfile.TemporaryDirectory(prefix="kbroker-prove-") as room:
+    with processes.room("kbroker-prove-") as room:
         began = time.time_ns()
         try:
-            prove(names, Path(room), *flags)
+            prove(names, room, *flags)
             if NAME in names:
-                take_program(Path(room), began)
+                take_program(room, began)
         except NotProved as error:
             sys.exit(f"kbroker: {error}")
     if NAME in names:

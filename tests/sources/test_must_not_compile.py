@@ -13,11 +13,13 @@ import unittest
 from pathlib import Path
 
 import edits
+import processes
 from program import ROOT, crates_list
 from prove import copy_crates
+from tests.support import tries_edits
 
 SAID = re.compile(r"^\S+: error\[([\w-]+)\]", re.M)
-CHECK = "setpriv", "--pdeathsig", "KILL", "rt", "check"  # which ends when this process does, however that ends
+CHECK = *processes.BOUND, "rt", "check"
 
 
 def started(edit, folder):
@@ -25,24 +27,25 @@ def started(edit, folder):
     name, room = edit.parent.parent.name, folder / edit.stem
     room.mkdir()
     copy_crates([name], room)
-    edits.apply(edit, "says", room / "crates" / name)
+    edits.apply(edit, edits.MUST_NOT_COMPILE.key, room / "crates" / name)
     told = {"stdout": subprocess.PIPE, "stderr": subprocess.STDOUT, "stdin": subprocess.DEVNULL}
     environment = {**os.environ, "TMPDIR": str(folder)}
     return subprocess.Popen(CHECK, cwd=room / "crates" / name, text=True, env=environment, **told)
 
 
+@tries_edits
 class MustNotCompile(unittest.TestCase):
     def test_each_edit_is_refused_as_it_says(self):
         """All are checked side by side."""
-        found = [it for name in crates_list() for it in sorted((ROOT / "crates" / name / "must-not-compile").glob("*.edit"))]
+        found = edits.MUST_NOT_COMPILE.edits(crates_list())
         self.assertTrue(found, "there are no edits")
         folder = Path(self.enterContext(tempfile.TemporaryDirectory(prefix="must-not-compile-")))
         checks = []
         for edit in found:
             checks.append((edit, started(edit, folder)))
-            self.addCleanup(checks[-1][1].kill)
+            self.addCleanup(processes.end, checks[-1][1])
         for edit, check in checks:
             with self.subTest(edit=str(edit.relative_to(ROOT))):
                 text = check.communicate()[0]
                 self.assertNotEqual(check.returncode, 0, text[-500:])
-                self.assertEqual(SAID.findall(text)[:1], [edits.due(edit, "says")], text[-500:])
+                self.assertEqual(SAID.findall(text)[:1], [edits.due(edit, edits.MUST_NOT_COMPILE.key)], text[-500:])
