@@ -8,8 +8,15 @@
         broker.advance(1_000)          # it goes on by a second
         broker.mark()                  # one marker is written, and `marks` writes all that are pending
 
-`ClockedKbroker` keeps its time itself, and takes so many connections. The settings are a TOML text. Each of `node_id`, `host` and
-`port` that they don't have is put before them; where that is all three, Metadata tells `broker.address`.
+With `clock=True` its time goes on and its markers are written by themselves, but where a test takes that over:
+
+    with Kbroker(settings, clock=True) as broker:
+        with broker.steered():
+            broker.mark()
+
+`ClockedKbroker` keeps its time itself, takes so many connections, and can't be steered. The settings are a TOML text, or parts of
+one (`kbroker_testing.settings`). Each of `node_id`, `host` and `port` that they don't have is put before them; where that is all
+three, Metadata tells `broker.address`. All calls may come from several threads at once.
 
 The program is the one that is named, or the one of the environment's KBROKER, or `kbroker` on the path.
 """
@@ -21,8 +28,11 @@ import socket
 import subprocess
 import tempfile
 import threading
+import time
 from typing import NamedTuple
 from urllib.parse import unquote
+
+from kbroker_testing.settings import joined
 
 ATTEMPTS = 5
 PORT_TAKEN = "listen failed\n"  # by somebody else, since it was found free
@@ -44,6 +54,7 @@ AT_LINE = re.compile(r"(kbroker: settings: TOML parse error at line )(\d+)")
 # What is told where as many connections were taken as are served.
 USED_UP = "kbroker: no more connections are taken, since --connections is {}"
 TICKS = os.sysconf("SC_CLK_TCK")
+TICK_EVERY, MARKS_EVERY = 0.1, 0.01  # seconds, of a steered broker whose time goes on by itself
 
 
 class Moment(NamedTuple):
@@ -195,10 +206,10 @@ class BrokerProcess:
     def __init__(self, settings, program=None, host="127.0.0.1", workers=4, more=(), errors=None):
         """It listens at an IPv4 address. Its standard error goes to a file, or to `errors`: a pipe, `subprocess.PIPE`, is read once
         its end is waited for."""
-        self.settings, self.program, self.host, self.workers = settings, program or program_of_environment(), host, workers
+        self.settings, self.program, self.host, self.workers = joined(settings), program or program_of_environment(), host, workers
         self.more, self.errors = more, errors
         self.process = self.folder = self.file = self.address = None
-        self.added = 0
+        self.added, self.lock = 0, threading.RLock()
         self.was_ended = False  # by whoever started it, who knows then what came of it
 
     def __enter__(self):
@@ -241,8 +252,16 @@ class BrokerProcess:
             words = ["serve", "--listen", listens, "--workers", str(self.workers), *words, *self.more]
             pipes = {"stdin": stdin, "stdout": subprocess.PIPE, "stderr": self.errors or self.file}
             coded = {"encoding": "utf-8", "errors": "surrogateescape"}
-            self.process = subprocess.Popen([self.program, *words], **pipes, **coded)
+            self.process = self.started([self.program, *words], **pipes, **coded)
         return self.read_line(STARTS_WITHIN)
+
+    def started(self, words, **more):
+        """The process of these words."""
+        try:
+            return subprocess.Popen(words, **more)
+        except (FileNotFoundError, PermissionError) as fault:
+            names = "name one by `program`, or by KBROKER in the environment; in a checkout ./kbroker is one, which `make build` builds"
+            raise BrokerFailed(f"the program {self.program} can't be run ({fault.strerror}): {names}") from None
 
     def read_line(self, within):
         """The next line of standard output, or what of it came before the output's end. A broker that says no line within so many
@@ -317,27 +336,30 @@ class BrokerProcess:
 
     def say(self, line):
         """Hands in a line, and gives the first line of the answer."""
-        if not self.was_ended:
-            self.hand_in(line)
-        return self.heard()
+        with self.lock:
+            if not self.was_ended:
+                self.hand_in(line)
+            return self.heard()
 
     def lines(self, said, last):
         """Hands in a line, and gives the lines of the answer up to the last, which begins with a word, and that word's number."""
-        found, line = [], self.say(said)
-        while not line.startswith(last + " "):
-            found.append(line)
-            line = self.heard()
-        return found, int(line.rpartition(" ")[2])
+        with self.lock:
+            found, line = [], self.say(said)
+            while not line.startswith(last + " "):
+                found.append(line)
+                line = self.heard()
+            return found, int(line.rpartition(" ")[2])
 
     def wait(self, line=None, timeout=30):
         """Waits so many seconds for its end, after a last line if there is one, and gives its status, what it said last, and what it
         said on standard error, if that comes here."""
-        self.was_ended = True
-        said, told = self.process.communicate(line, timeout=timeout)
-        if self.file:
-            self.file.seek(0)
-            told = self.file.read().decode()
-        return self.process.returncode, said, told or ""
+        with self.lock:
+            self.was_ended = True
+            said, told = self.process.communicate(line, timeout=timeout)
+            if self.file:
+                self.file.seek(0)
+                told = self.file.read().decode()
+            return self.process.returncode, said, told or ""
 
     def settled(self, line=None, timeout=30):
         """Waits for its end as `wait` does, and gives what it did, and the lines of standard error."""
@@ -379,11 +401,87 @@ class ClockedKbroker(BrokerProcess):
         return counted, settings
 
 
-class Kbroker(BrokerProcess):
-    """A broker that is steered. It ends with the `with`, and its books have to be settled then."""
+class Clock(threading.Thread):
+    """Has the time of a steered broker go on, and its markers written, as a clock of its own would, while nobody steers it."""
 
-    def __init__(self, settings, program=None, host="127.0.0.1", workers=16, more=("--librdkafka",), errors=None):
+    def __init__(self, broker):
+        super().__init__(daemon=True)
+        self.broker, self.steering, self.ended = broker, 0, threading.Event()
+        self.told = time.monotonic()  # when the broker's moment was last set on, or taken over
+
+    def run(self):
+        try:
+            while not self.ended.wait(MARKS_EVERY):
+                with self.broker.lock:
+                    if not (self.steering or self.ended.is_set()):
+                        self.step()
+        except (NotTaken, EOFError, OSError, ValueError):
+            pass  # whoever asks the broker next is told
+
+    def step(self):
+        """Writes the pending markers, and tells the moment if it is time."""
+        self.broker.marks()
+        passed = time.monotonic() - self.told
+        if passed >= TICK_EVERY:
+            self.told += passed
+            self.broker.advance(int(1000 * passed))
+
+    def end(self):
+        """It does nothing more."""
+        self.ended.set()
+        self.join()
+
+
+class Kbroker(BrokerProcess):
+    """A broker that is steered, or with `clock` one whose time goes on by itself, but within `steered`. It ends with the `with`, and
+    its books have to be settled then."""
+
+    def __init__(self, settings, program=None, host="127.0.0.1", workers=16, more=("--librdkafka",), errors=None, clock=False):
         super().__init__(settings, program, host, workers, more, errors)
+        self.clock = Clock(self) if clock else None
+
+    def __enter__(self):
+        super().__enter__()
+        if self.clock:
+            self.clock.start()
+        return self
+
+    def close(self):
+        """Leaves nothing of it."""
+        if self.clock and self.clock.is_alive():
+            self.clock.end()
+        super().close()
+
+    @property
+    def bootstrap_servers(self):
+        """Where clients begin: `broker.address`, by the name that they have for it."""
+        return self.address
+
+    def client_config(self, user, password, **more):
+        """The properties by which a user's client on librdkafka connects, as confluent-kafka takes them, with more of them: their dots
+        are underscores here."""
+        own = {
+            "bootstrap.servers": self.address,
+            "security.protocol": "SASL_PLAINTEXT",
+            "sasl.mechanism": "PLAIN",
+            "sasl.username": user,
+            "sasl.password": password,
+        }
+        return own | {name.replace("_", "."): it for name, it in more.items()}
+
+    @contextlib.contextmanager
+    def steered(self):
+        """Meanwhile the clock stands, and no marker is written, but where the test says so. Then both go on from there."""
+        with self.lock:
+            if self.clock:
+                self.clock.steering += 1
+        try:
+            yield self
+        finally:
+            with self.lock:
+                if self.clock:
+                    self.clock.steering -= 1
+                    self.clock.told = time.monotonic()
 
     def __exit__(self, kind, *_):
         try:
@@ -426,6 +524,8 @@ class Kbroker(BrokerProcess):
         """Takes no more connections, closes those that are open once what they have asked is answered, and gives what the settled
         broker did. A client that reads no answers is waited for five seconds. Where the broker doesn't end as it should, or not
         within so many seconds, the exception names the sessions that it had to close so."""
+        if self.clock and self.clock.is_alive():
+            self.clock.end()
         return self.settled("end\n", timeout)[0]
 
 

@@ -237,7 +237,7 @@ class Brokers(unittest.TestCase):
                 broker.settled()
 
     def test_a_program_that_is_not_there(self):
-        with self.assertRaises(FileNotFoundError):
+        with self.assertRaises(BrokerFailed):
             with Kbroker(OWN, program="/none/kbroker"):
                 self.fail("it listens")
 

@@ -3,13 +3,17 @@
 import contextlib
 import io
 import json
+import os
 import subprocess
 import sys
 import unittest
 from pathlib import Path
+from unittest import mock
 
-from tests import ROOT
-from tests.harness import Count, Worker, discover, files, judged, total
+from program import PROGRAM
+from tests import ROOT, harness
+from tests.harness import Count, Worker, discover, files, judged, told_of_program, total
+from unproved import UNPROVED
 
 CASES = ["m.C.test_a", "m.C.test_b", "m.C.test_c"]
 
@@ -67,9 +71,9 @@ class Processes(unittest.TestCase):
             self.assertEqual(worker.count(), Count(0, len(CASES), 0))
         self.assertEqual(said.getvalue(), "tests: tests.none FAILED: it ended with status -9 and told nothing\n")
 
-    def run_harness(self, *words):
+    def run_harness(self, *words, **environment):
         words = [sys.executable, "-m", "tests.harness", *words]
-        ran = subprocess.run(words, cwd=ROOT, capture_output=True, text=True, timeout=60)
+        ran = subprocess.run(words, cwd=ROOT, env={**os.environ, **environment}, capture_output=True, text=True, timeout=60)
         return ran.returncode, ran.stdout + ran.stderr
 
     def test_a_name_that_no_case_has(self):
@@ -77,12 +81,35 @@ class Processes(unittest.TestCase):
         self.assertEqual((status, said), (1, "tests: no case has no case has this name in its name\n"))
 
     def test_a_folder_that_is_not_there(self):
-        self.assertEqual(self.run_harness("tests.none"), (1, "0 passed, 0 failed, 0 skipped\n"))
+        status, said = self.run_harness("tests.none")
+        self.assertEqual(status, 1)
+        self.assertRegex(said, r"\A0 passed, 0 failed, 0 skipped, in ")
 
     def test_a_case_by_its_name(self):
-        status, said = self.run_harness("-k", "test_words_are_escaped")
+        status, said = self.run_harness("-k", "test_what_is_due")
         self.assertEqual(status, 0, said)
         self.assertRegex(said, r"Ran 1 test in")
+
+    def test_no_program(self):
+        """One sentence says so, where a case needs it."""
+        for words in (("-k", "test_words_are_escaped"), ("tests.golden.test_lines",)):
+            with self.subTest(words=words):
+                status, said = self.run_harness(*words, KBROKER="/none")
+                self.assertEqual(status, 1)
+                self.assertRegex(said, r"\Atests: there is no program /none: .*\n\Z")
+        self.assertEqual(self.run_harness("-k", "test_what_is_due", KBROKER="/none")[0], 0)
+
+    def test_over_which_program(self):
+        """The last line says it."""
+        rows = ((str(UNPROVED), "not proved: make verify proves it"), ("/bin/true", "over /bin/true"))
+        for program, word in rows:
+            with self.subTest(program=program), mock.patch.dict(os.environ, KBROKER=program):
+                self.assertEqual(told_of_program(["tests.golden.test_lines"]), word)
+                self.assertEqual(told_of_program(["tests.sources.test_edits"]), "no program is needed")
+        for lacks, word in ((None, "proved"), ("the program is older than a source", "of other sources than these: make prove")):
+            with self.subTest(lacks=lacks), mock.patch.dict(os.environ, KBROKER=str(PROGRAM)):
+                with mock.patch.object(harness, "what_lacks", lambda lacks=lacks: lacks):
+                    self.assertEqual(told_of_program(["tests.golden.test_lines"]), word)
 
 
 class Discovery(unittest.TestCase):

@@ -6,9 +6,9 @@ import unittest
 
 from program import ROOT
 from tests.pages import ADDRESS, FIRST, OWN_TEST, Room, assert_prints, assert_steps, blocks_of, serving, steps_of
-from tests.support import PROGRAM, wait_until
+from tests.support import wait_until
 
-RECIPES = 5
+RECIPES = 6
 WITHOUT_A_BROKER = 2  # blocks of docs/USING.md
 
 
@@ -39,6 +39,5 @@ class Pages(unittest.TestCase):
         blocks = [it for it in blocks_of((ROOT / "docs/USING.md").read_text()) if it.startswith("$ ") and ADDRESS not in it]
         self.assertEqual(len(blocks), WITHOUT_A_BROKER)
         with Room() as room:
-            (room.path / "kbroker").symlink_to(PROGRAM.resolve())
             for block in blocks:
                 assert_steps(self, room, steps_of(block))

@@ -1,0 +1,33 @@
+"""Waiting in tests: until something holds, and for a call that blocks."""
+
+import threading
+import time
+from concurrent.futures import Future
+
+PATIENCE = 30  # seconds
+PAUSE = 0.01  # seconds, between two looks
+
+
+def wait_until(holds, within=PATIENCE, otherwise="it doesn't hold"):
+    """Waits until `holds()` is true, and gives what it gave. After so many seconds it is a TimeoutError, which says this."""
+    until = time.monotonic() + within
+    while not (found := holds()):
+        if time.monotonic() > until:
+            raise TimeoutError(f"{otherwise}, after {within} seconds")
+        time.sleep(PAUSE)
+    return found
+
+
+def background(call, *given, **named):
+    """Has a thread make a call that blocks, as a client's commit does while no marker is written, and gives a `Future`: its
+    `result(timeout)` waits for what the call gives or raises. A call that never ends doesn't keep the test from ending."""
+    future = Future()
+
+    def run():
+        try:
+            future.set_result(call(*given, **named))
+        except BaseException as fault:
+            future.set_exception(fault)
+
+    threading.Thread(target=run, daemon=True).start()
+    return future
