@@ -7,18 +7,53 @@ import subprocess
 import sys
 import tempfile
 import time
+import unittest
 from pathlib import Path
 
 from kbroker_testing.broker import free_port
 from kbroker_testing.protocol import in_partition, request_digits
+from packages import IN_CI
+from program import changed_since
+from unproved import UNPROVED
 
 PROGRAM = Path(os.environ["KBROKER"])
+# Whether it was compiled without a proof, with the checks of `rt try`.
+HAS_CHECKS = PROGRAM.resolve() == UNPROVED.resolve()
+# Who runs the tests: `make test` ("quick"), `make verify` ("verify"), or whoever names cases.
+RUN_BY = os.environ.get("KBROKER_RUN")
 
 # With any eight characters after it a name has one and the same hash by the default hasher of the toolchain's tables, whose
 # keys everybody knows.
 COLLIDING = "2iebam06274dwt247n1-OgrT"
 LONGEST_FRAME = 104_857_600
 PATIENCE = 10  # seconds that a wait lasts at most
+
+# ---- what can't be run everywhere
+
+
+def needs_proved_program(why):
+    """Marks cases that show nothing over a program that is compiled without a proof, with its checks: there they are skipped."""
+    return unittest.skipIf(HAS_CHECKS, f"it needs the proved program, since {why}: make verify runs it")
+
+
+def needs_crate(made):
+    """Marks cases that run a program which a crate makes beside kbroker, and which `make verify` alone builds. Where it isn't
+    built from the sources as they stand they are skipped."""
+    is_current = RUN_BY == "verify" or made.exists() and not changed_since(made.stat().st_mtime_ns, made.name)
+    return unittest.skipUnless(is_current, f"it needs {made.name}, which make verify builds and runs")
+
+
+def tries_edits(cls):
+    """Marks cases that try edits of crates, which `make verify` does, and whoever names them."""
+    return unittest.skipIf(RUN_BY == "quick", "it tries edits of crates: make verify runs it")(cls)
+
+
+def without_package(case, package):
+    """Skips a case that needs a package of Debian's, but in CI, where it has to be there, it fails."""
+    if IN_CI:
+        case.fail(f"{package} isn't installed")
+    case.skipTest(f"{package} isn't installed")
+
 
 # ---- settings
 

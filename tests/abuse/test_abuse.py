@@ -14,7 +14,7 @@ from kbroker_testing.broker import ClockedKbroker
 from kbroker_testing.codes import Code
 from kbroker_testing.protocol import batch, logged_in, partition_of, request_frame, response_of
 from tests.abuse.beside import LONGEST, ask_whole, beside_another
-from tests.support import OF_ROOT, TOP, acl, topic, user
+from tests.support import OF_ROOT, TOP, acl, needs_proved_program, topic, user
 
 PARTITIONS = range(1_000)
 ROUNDS = 3  # of each request
@@ -113,6 +113,7 @@ class Memory(unittest.TestCase):
         answer = ask_whole(self.broker, frame)
         return answer, self.running.peak_memory() - before
 
+    @needs_proved_program("with checks 100 MB of an answer take too long")
     def test_a_long_metadata_is_sent_part_after_part(self):
         times = 5_000
         one = ask_whole(self.broker, request_frame("Metadata", 1, {"topics": ["t"]}))
@@ -126,6 +127,7 @@ class Memory(unittest.TestCase):
         self.assertGreater(len(answer), 100_000_000)
         self.assertLess(taken, 8_000_000)
 
+    @needs_proved_program("memory is measured, of which checks take more")
     def test_fetched_records_are_sent_from_where_they_stand(self):
         # Batches of each kind: smaller and larger than what is gathered, and than what isn't copied.
         sizes = 1, 16_000, 32_707, 40_000, 70_000, 1_000_000

@@ -13,7 +13,7 @@ import unittest
 from kbroker_testing.broker import ClockedKbroker
 from kbroker_testing.codes import Code
 from kbroker_testing.protocol import batch, in_partition, logged_in, request_frame, response_frame
-from tests.support import OF_ROOT, OF_SUPER, peak_of, script_line, topic
+from tests.support import OF_ROOT, OF_SUPER, needs_proved_program, peak_of, script_line, topic
 
 FEW, MANY = 100_000, 200_000
 TEN = range(10)
@@ -156,6 +156,7 @@ def copies_in_memory(process, text):
     return found
 
 
+@needs_proved_program("its memory is measured, and with checks it takes more, and a quarter of an hour")
 class Kept(unittest.TestCase):
     def test_small_events_keep_little(self):
         for name, line in EVENTS.items():

@@ -1,7 +1,8 @@
 """Clients that people have, against `kbroker serve --librdkafka`: kcat, and confluent-kafka, which stands on librdkafka too.
 
-They are Debian's packages kcat and python3-confluent-kafka. Where one of them isn't installed its tests are skipped. Debian's
-packages are installed for the interpreter of the system: where this one is another, that one runs the tests of confluent-kafka.
+They are Debian's packages kcat and python3-confluent-kafka. Where one of them isn't installed its tests are skipped, but in CI
+(CI=true in the environment) they fail. Debian's packages are installed for the interpreter of the system: where this one is
+another, that one runs the tests of confluent-kafka.
 """
 
 import functools
@@ -11,16 +12,17 @@ import subprocess
 import time
 import unittest
 
+import packages
 from kbroker_testing.broker import ClockedKbroker, Kbroker
+from packages import OF_THE_SYSTEM
 from program import ROOT
-from tests.support import TooLate, acl, topic, user
+from tests.support import TooLate, acl, topic, user, without_package
 
 try:
     import confluent_kafka as kafka
 except ImportError:
     kafka = None
 
-OF_THE_SYSTEM = "/usr/bin/python3"  # for which Debian's packages are installed
 SETTINGS = (
     'supers = ["User:root"]\n'
     + user("root", "root-secret")
@@ -32,12 +34,20 @@ WAIT = 30  # seconds, at most, for what a client is to see
 QUIET = 2  # seconds after which a client is taken to see nothing more
 
 
-@functools.cache
-def has_kafka(interpreter):
-    """Whether an interpreter finds confluent-kafka."""
-    if shutil.which(interpreter) is None:
-        return False
-    return subprocess.run([interpreter, "-c", "import confluent_kafka"], capture_output=True).returncode == 0
+has_kafka = functools.cache(packages.has_kafka)
+
+
+def needs_kcat(cls):
+    """Marks cases of kcat."""
+    plain = cls.setUp
+
+    def set_up(self):
+        if shutil.which("kcat") is None:
+            without_package(self, "kcat")
+        plain(self)
+
+    cls.setUp = set_up
+    return cls
 
 
 def by_who_has_kafka(test):
@@ -49,7 +59,7 @@ def by_who_has_kafka(test):
             test(self)
             return
         if not has_kafka(OF_THE_SYSTEM):
-            self.skipTest("confluent-kafka isn't installed")
+            without_package(self, "confluent-kafka")
         name = ".".join(["tests.clients.test_clients", *self.id().split(".")[-2:]])
         ran = subprocess.run([OF_THE_SYSTEM, "-m", "unittest", name], cwd=ROOT, capture_output=True, encoding="utf-8")
         self.assertEqual(ran.returncode, 0, ran.stderr)
@@ -77,7 +87,7 @@ class Clocked(unittest.TestCase):
         self.address = self.enterContext(ClockedKbroker(SETTINGS, **options)).address
 
 
-@unittest.skipIf(shutil.which("kcat") is None, "kcat isn't installed")
+@needs_kcat
 class Kcat(Clocked):
     CONSUME = ("-C", "-t", "orders", "-p", "0", "-o", "beginning", "-e", "-q")
     PRODUCE = ("-P", "-t", "orders", "-p", "0")

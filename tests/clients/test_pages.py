@@ -1,25 +1,25 @@
 """The pages for people with kcat and confluent-kafka: README's first one, and those of examples/. Their commands are run as they
 stand there, and print what stands there."""
 
-import shutil
 import sys
 import unittest
 
+from packages import OF_THE_SYSTEM
 from program import ROOT
-from tests.clients.test_clients import OF_THE_SYSTEM, has_kafka
+from tests.clients.test_clients import has_kafka, needs_kcat
 from tests.pages import FIRST, Room, assert_prints, assert_steps, blocks_of, serving, steps_of
-from tests.support import wait_until
+from tests.support import wait_until, without_package
 
 
 def interpreter_with_kafka(case):
-    """An interpreter that has confluent-kafka. Where none has, the case is skipped."""
+    """An interpreter that has confluent-kafka. Where none has, the case is skipped, or fails."""
     for it in (sys.executable, OF_THE_SYSTEM):
         if has_kafka(it):
             return it
-    return case.skipTest("confluent-kafka isn't installed")
+    return without_package(case, "confluent-kafka")
 
 
-@unittest.skipIf(shutil.which("kcat") is None, "kcat isn't installed")
+@needs_kcat
 class WithKcat(unittest.TestCase):
     def test_the_first_page(self):
         """README: a transaction is committed and read, a write is refused, an aborted record isn't read; and the broker tells of

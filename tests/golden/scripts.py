@@ -1,10 +1,11 @@
 """The golden scripts: each `NAME.txt` of examples/ and of the folders beside this file, with what has to be printed for it in
-`NAME.out`."""
+`NAME.out`; and the program's stored run, with what has to be printed in `stdout`."""
 
 from program import ROOT
 
 EXAMPLES = ROOT / "examples"
 GOLDEN = ROOT / "tests/golden"
+STORED_RUN = ROOT / "crates/kbroker/stdin"
 # Whose scripts are no golden ones, but those of `kbroker show`.
 SHOWN = GOLDEN / "show"
 
@@ -16,7 +17,12 @@ def folders():
 
 def scripts():
     """All scripts."""
-    return [it for folder in folders() for it in sorted(folder.rglob("*.txt"))]
+    return [STORED_RUN, *(it for folder in folders() for it in sorted(folder.rglob("*.txt")))]
+
+
+def output_of(script):
+    """The file that has what has to be printed for a script."""
+    return script.with_name("stdout") if script == STORED_RUN else script.with_suffix(".out")
 
 
 def a_case_for_each(cls):

@@ -1,5 +1,5 @@
-"""Answers each script of `examples/` and of this folder anew, and compares what is printed with the file of the same name that
-ends in `.out`, byte for byte.
+"""Answers each script of `examples/` and of this folder anew, and the program's stored run, and compares what is printed with the
+file of the same name that ends in `.out`, or with `stdout`, byte for byte.
 
 Each is answered to its end. What a script shows stands on its first lines, as a comment of its settings.
 """
@@ -7,7 +7,7 @@ Each is answered to its end. What a script shows stands on its first lines, as a
 import subprocess
 import unittest
 
-from tests.golden.scripts import a_case_for_each, assert_lines, folders
+from tests.golden.scripts import a_case_for_each, assert_lines, folders, output_of
 from tests.support import PROGRAM
 
 # What is said of each line that is answered `closed`.
@@ -18,7 +18,7 @@ CLOSED = r"\Akbroker: line \d+ of the input: here the broker would close the con
 class Answers(unittest.TestCase):
     def look_at(self, script):
         ran = subprocess.run([PROGRAM, "replay"], input=script.read_bytes(), capture_output=True, timeout=60)
-        wanted = script.with_suffix(".out").read_bytes()
+        wanted = output_of(script).read_bytes()
         said = ran.stderr.decode().splitlines()
         self.assertEqual((ran.returncode, len(said)), (0, wanted.splitlines().count(b"closed")))
         for line in said:

@@ -10,7 +10,7 @@ import subprocess
 import tempfile
 import unittest
 
-from tests.support import PROGRAM, TOP, user
+from tests.support import PROGRAM, TOP, needs_proved_program, user
 
 MISUSED, FAILED = 2, 1
 FREE = "127.0.0.1:0"
@@ -128,6 +128,7 @@ class Files(unittest.TestCase):
                 self.assertEqual(said[: len(UNREAD)], UNREAD)
                 self.assertRegex(said[len(UNREAD) :], r"\Akbroker: standard input: .+\n\Z")
 
+    @needs_proved_program("the checks of the other one want memory of their own")
     def test_files_that_do_not_fit_in_memory(self):
         with tempfile.NamedTemporaryFile() as file:
             file.truncate(LONG)

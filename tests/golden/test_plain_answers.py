@@ -1,5 +1,5 @@
-"""Works out the answers of each script of `examples/` and of this folder on its own, and compares them with the file of the same
-name that ends in `.out`, byte for byte.
+"""Works out the answers of each script of `examples/` and of this folder on its own, and of the program's stored run. They are
+compared with the file of the same name that ends in `.out`, or with `stdout`, byte for byte.
 
 The program isn't asked. Requests are read and answers written by the schemas of the protocol's guide
 (`kbroker_testing.protocol`, `tests/models/frames.py`), and what is answered is worked out over plain lists
@@ -12,7 +12,7 @@ import unittest
 from kbroker_testing.apis import APIS, SCHEMAS
 from kbroker_testing.codes import Code
 from kbroker_testing.protocol import Reader, response_frame
-from tests.golden.scripts import a_case_for_each, assert_lines
+from tests.golden.scripts import a_case_for_each, assert_lines, output_of
 from tests.models import frames
 from tests.models.plain_apis import Request
 from tests.models.plain_broker import World
@@ -61,4 +61,4 @@ def printed(script):
 class PlainAnswers(unittest.TestCase):
     def look_at(self, script):
         told = [f"{line}\n" for line in printed(script.read_text())]
-        assert_lines(self, told, script.with_suffix(".out").read_text().splitlines(keepends=True))
+        assert_lines(self, told, output_of(script).read_text().splitlines(keepends=True))

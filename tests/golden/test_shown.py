@@ -3,10 +3,12 @@ reads of the same frames: each value, in the order of the wire. With the answers
 without settings the same requests. What examples/fencing.txt is shown as stands beside it, to be read by a person.
 
 Besides, each script of `show/` is shown as the text beside it, which was written by hand, with the answers beside it if there
-are any, and says on standard error what stands beside it; what is told there of each api is read by `kbroker_testing.protocol`
-too. And what can't be read or written ends with status 1.
+are any, and says on standard error what stands beside it. What that text tells of whole frames is read by
+`kbroker_testing.protocol` too, without the program, and what is inside of batches here, by the protocol guide. And what can't be
+read or written ends with status 1.
 """
 
+import math
 import os
 import re
 import struct
@@ -17,8 +19,10 @@ from typing import NamedTuple
 from kbroker_testing.apis import APIS, SCHEMAS
 from kbroker_testing.protocol import Reader, response_of
 from program import ROOT
-from tests.golden.scripts import EXAMPLES, SHOWN, a_case_for_each, assert_lines
+from tests.golden.scripts import EXAMPLES, SHOWN, a_case_for_each, assert_lines, output_of
+from tests.golden.test_plain_answers import printed
 from tests.models.frames import SERVED
+from tests.models.plain_log import Batch, batch_of
 from tests.support import PROGRAM
 
 HEAD = re.compile(
@@ -31,8 +35,12 @@ ESCAPED = {"n": "\n", "r": "\r", "t": "\t", "0": "\0"}
 NUMBER = re.compile(r"-?\d+")
 READABLE = EXAMPLES / "fencing.txt"
 EACH_API = "each_api.script"
-# Of these bytes the text tells something else: batches, and how long a password is.
-OTHERWISE = "records", "auth_bytes"
+# Frames and answers with faults, and what isn't shown to its end, are read by hand alone.
+BY_HAND_ALONE = "faults", "unfitting", "no_section", "full", "stopped", "refused_settings", "unreadable"
+# Of these bytes the text tells something else: how long a password is.
+OTHERWISE = "auth_bytes"
+NO_BATCH = re.compile(r"\d+ bytes that are no batch(?=: )")
+MARKERS = {0: "abort", 1: "commit"}
 
 
 class Bytes(NamedTuple):
@@ -68,7 +76,7 @@ def values_of(words):
 
 
 def told(lines):
-    """The values that are shown, in order, but for those of records and of passwords."""
+    """The values that are shown, in order, but for those of passwords. Of bytes that are no batch it is told how many these are."""
     found, within = [], None
     for line in lines:
         bare = line.lstrip(" ")
@@ -79,8 +87,10 @@ def told(lines):
         while bare.startswith("- "):
             bare, indent = bare[2:], indent + 2
         name, _, words = bare.partition(" ")
-        if name in OTHERWISE:
+        if name == OTHERWISE:
             within = indent
+        elif no_batch := NO_BATCH.match(bare):
+            found.append(no_batch[0])
         elif bare.startswith('"') or NUMBER.fullmatch(bare):
             found += values_of(bare)
         elif words:
@@ -98,14 +108,61 @@ def wanted_bytes(data):
     return Bytes(data.hex()) if is_hidden else Text(text)
 
 
+def of_record(record, base, is_control):
+    """The values of a record ("Record"), at its offset: of a marker its kind, which is the second number of its key."""
+    record.take(1)
+    delta, offset, key, value = record.zigzag(), base + record.zigzag(), record.part(), record.part()
+    headers = [it for _ in range(record.zigzag()) for it in (record.part(), record.part())]
+    if is_control:
+        return [str(offset), MARKERS[struct.unpack(">hh", key or b"")[1]]]
+    return [str(offset), str(delta), *("null" if it is None else wanted_bytes(it) for it in (key, value, *headers))]
+
+
+def of_records(batch, count, base, is_control):
+    """The values of a batch's records, or how many bytes are none."""
+    size = len(batch.data) - batch.at
+    try:
+        return [it for _ in range(count) for it in of_record(Reader(batch.take(batch.zigzag())), base, is_control)]
+    except (ValueError, KeyError, struct.error):
+        return [str(size)]
+
+
+def of_batch(reader):
+    """The values of a batch ("Record Batch" of the protocol's guide), and of its records where the batch has no fault."""
+    began, base, length = reader.at, reader.number(">q"), reader.number(">i")
+    batch = Reader(reader.take(length))
+    leader, magic, _ = batch.number(">i"), batch.number(">b"), batch.number(">I")
+    if magic != 2:
+        raise ValueError("it is of another format")
+    *head, count = struct.unpack(">hiqqqhii", batch.take(40))
+    is_control, size = bool(head[0] & 32), len(batch.data) - batch.at
+    is_right = is_control or isinstance(batch_of(reader.data[began : reader.at], math.inf), Batch)
+    records = of_records(batch, count, base, is_control) if is_right else [str(size)]
+    return [*(str(it) for it in (base, leader, *head)), *records]
+
+
+def of_batches(data):
+    """The values of batches, and how many bytes come then that are none."""
+    reader, found = Reader(data), []
+    while reader.at < len(data):
+        began = reader.at
+        try:
+            found += of_batch(reader)
+        except ValueError:
+            return [*found, f"{len(data) - began} bytes that are no batch"]
+    return found
+
+
 def wanted(kind, value, name=""):
     """The values of what the protocol reads, in order."""
     if isinstance(kind, list):
         if any(value[name] is None and not may_be_null for name, _, may_be_null in kind):
             raise ValueError("what may not be null is null")
         return [one for name, of, _ in kind for one in wanted(of, value[name], name)]
-    if kind == "b" and name in ("records", "auth"):
+    if kind == "b" and name == "auth":
         return []
+    if kind == "b" and name == "records" and value is not None:
+        return of_batches(value)
     if value is None:
         return ["null"]
     if isinstance(kind, tuple):
@@ -176,6 +233,11 @@ def is_as_told(block, line, out):
     return told(reply) == (answered(api, out) if re.fullmatch("[0-9a-f]+", out) else [])
 
 
+def without_refusals(lines):
+    """These lines, but for those of refusals, which belong to the answer before them."""
+    return [it for it in lines if not it.startswith(("denied ", "unmatched "))]
+
+
 def ended(*words, **streams):
     """The status, the text and the errors of a run over READABLE, or over other streams."""
     with READABLE.open("rb") as script:
@@ -207,12 +269,11 @@ class Shown(ShownCase):
         text = script.read_bytes()
         _, _, lines = text.decode().partition("\n---\n")
         lines = lines.splitlines()
-        outs = script.with_suffix(".out").read_text().splitlines()
-        outs = [it for it in outs if not it.startswith(("denied ", "unmatched "))]
+        outs = without_refusals(output_of(script).read_text().splitlines())
         self.assertEqual(len(outs), len(lines), "so many lines are answered")
         whole = self.shown(text)
         self.assert_read(whole, lines, outs)
-        self.assertEqual(self.shown(text, "--answers", script.with_suffix(".out")), whole, "with its answers")
+        self.assertEqual(self.shown(text, "--answers", output_of(script)), whole, "with its answers")
         blocks, alone = blocks_of(whole), blocks_of(self.shown("".join(f"{it}\n" for it in lines).encode()))
         self.assertEqual([it[:2] for it in alone], [it[:2] for it in blocks], "without its settings")
         self.assertFalse(any(it[2] for it in alone), "an answer is shown without settings")
@@ -231,8 +292,6 @@ class ByHand(ShownCase):
         with script.open("rb") as lines:
             status, text, said = ended(*words, stdin=lines)
         self.assertEqual((status, said), (int(bool(wanted)), wanted))
-        if script.name == EACH_API:
-            self.assert_read(text, script.read_text().splitlines()[1:], answers.read_text().splitlines())
         assert_lines(self, text.splitlines(keepends=True), script.with_suffix(".show").read_text().splitlines(keepends=True))
 
     def test_scripts_that_were_written_by_hand(self):
@@ -241,6 +300,21 @@ class ByHand(ShownCase):
         for script in scripts:
             with self.subTest(script=script.name):
                 self.assert_as_written(script)
+
+    def test_what_was_written_is_what_the_protocol_reads(self):
+        """With the answers beside it, or those of the plain broker where there are settings. The program isn't asked."""
+        read = [it for it in sorted(SHOWN.glob("*.script")) if it.stem not in BY_HAND_ALONE]
+        self.assertIn(SHOWN / EACH_API, read)
+        for script in read:
+            with self.subTest(script=script.name):
+                settings, mark, body = script.read_text().rpartition("---\n")
+                lines, answers = body.splitlines(), script.with_suffix(".answers")
+                if answers.exists():
+                    outs = without_refusals(answers.read_text().splitlines())
+                else:
+                    outs = without_refusals(printed(f"{settings}{mark}{body}")) if mark else ["-"] * len(lines)
+                self.assertEqual(len(outs), len(lines), "so many answers")
+                self.assert_read(script.with_suffix(".show").read_text(), lines, outs)
 
     def test_what_can_be_neither_read_nor_written(self):
         folder = os.open(ROOT, os.O_RDONLY)

@@ -23,6 +23,7 @@ ID = {"transactional_id": "t"}
 LAST = {**ID, "producer": 0, "epoch": EPOCHS - 1}
 AFTER_LAST = {**ID, "producer": 0, "epoch": EPOCHS}
 OUTCOMES = {"commit": 1, "abort": 0}
+LIMIT = 600  # seconds; with the checks of `rt try` a run takes half a minute and more
 
 
 def line(api, **fields):
@@ -50,7 +51,7 @@ class WornEpochs(unittest.TestCase):
     maxDiff = None
 
     def answers(self, script):
-        return [it.answer for it in replay(SETTINGS + script)]
+        return [it.answer for it in replay(SETTINGS + script, timeout=LIMIT)]
 
     def assert_marker(self, fetched, outcome):
         """A control batch of 78 bytes stands at the end: its attributes, its producer's pair, and the kind of its record."""

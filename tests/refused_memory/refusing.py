@@ -9,6 +9,7 @@ from concurrent.futures import ThreadPoolExecutor
 from pathlib import Path
 
 from program import ROOT
+from tests.support import needs_crate, needs_proved_program
 
 REFUSED_RUNS = ROOT / "crates/refused_runs/out/refused_runs"
 NOT_BEGUN, FAILED = 3, 1  # the statuses of that program
@@ -16,6 +17,10 @@ COUNTED = re.compile(r"^allocations: (\d+)$", re.M)
 MOST_FAULTS = 5  # that are told of a run whose allocations are refused in turn
 
 
+needs_refused_runs = needs_crate(REFUSED_RUNS)
+
+
+@needs_proved_program("an allocator is preloaded")
 class RefusingCase(unittest.TestCase):
     """Tests that preload the library which refuses an allocation."""
 

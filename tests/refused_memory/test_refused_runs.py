@@ -100,6 +100,7 @@ def came_of(script, way, run, whole):
     return "down" if run.after[2] == "stop 3" and not script.reads(count) else None
 
 
+@refusing.needs_refused_runs
 class RefusedRuns(refusing.RefusingCase):
     def refuse_each(self, script, way):
         """Refuses each allocation in turn, and returns what came of them."""

@@ -158,6 +158,7 @@ def fault_of(run, whole):
 
 
 class RefusedSessions(refusing.RefusingCase):
+    @refusing.needs_refused_runs
     def test_a_session_over_bytes(self):
         whole = OverBytes(self.environment(0))
         self.assertEqual((whole.status, whole.receipts, whole.written, whole.end), (0, 1, WRITTEN, "Closed"), whole.told)

@@ -18,7 +18,7 @@ from tests.server.session_bytes import framed
 from tests.server.told import CLOCK_STOPS, CUT, FULL, LOGS_IN, NEARLY_FULL, NO_LOGIN, READ_FAILED, WAITED, WAITING
 from tests.server.told import asked, counted, of_nobody, of_user, text_of
 from tests.support import COLLIDING, LISTEN, LONGEST_FRAME, OF_SUPER, TOP, TooLate
-from tests.support import acl, connect, of_b, run_server, topic, user, wait_until
+from tests.support import acl, connect, needs_proved_program, of_b, run_server, topic, user, wait_until
 
 USERS = user("root", "toor") + user("ann", "pw")
 TOPIC = topic("b", 2)
@@ -69,10 +69,16 @@ def last_offset(broker, isolation):
     return partition_of(broker.ask("ListOffsets", isolation=isolation, topics=of_b(timestamp=-1)))["offset"]
 
 
+def is_stable(broker):
+    """Whether no offset of the group `g` waits for a marker. That of a transaction is written after those of its partitions."""
+    told = broker.ask("OffsetFetch", group="g", topics=[{"topic": "b", "partitions": [0]}], require_stable=True)
+    return partition_of(told)["error"] != Code.UNSTABLE_OFFSET_COMMIT
+
+
 def wait_for_markers(broker):
-    """Waits until no transaction of `b` is open. The keeper writes a marker ten times a second at least."""
+    """Waits until no transaction of `b` or of `g` is open. The keeper writes a marker ten times a second at least."""
     for _ in range(10_000):
-        if last_offset(broker, 1) == last_offset(broker, 0):
+        if last_offset(broker, 1) == last_offset(broker, 0) and is_stable(broker):
             return
     raise TooLate("the markers are not written")
 
@@ -322,6 +328,7 @@ class Peers(ServedCase):
         self.assertIn(of_nobody(1, CUT), told)
         self.assertLessEqual(len(told), 2, told)
 
+    @needs_proved_program("memory is measured, of which checks take more")
     def test_announced_frames_take_little(self):
         """Clients that announce the longest frame and stop after a byte of it cost the broker no room for the rest."""
         clients = 64
@@ -339,6 +346,7 @@ class Peers(ServedCase):
         self.assertEqual(settled.sessions, clients + 1)
         self.assertEqual(counted(told), {text_of(of_nobody(0, CUT)): clients})
 
+    @needs_proved_program("memory is measured, of which checks take more")
     def test_sent_frames_are_not_kept(self):
         """Clients that send the longest frame before a login cost the broker no room for it, and are closed."""
         clients, patient = 64, ("--login-within", "300", "--frame-within", "300")

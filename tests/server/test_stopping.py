@@ -24,7 +24,7 @@ from kbroker_testing.codes import Code
 from kbroker_testing.protocol import batch, logged_in, partition_of, request_frame
 from program import ROOT
 from tests.server.told import CLOCK_STOPS, CLOSED, CUT, FULL, WRITE_FAILED, of_nobody, of_user, without_waits
-from tests.support import LISTEN, OF_ROOT, connect, is_read, of_b, topic, user, wait_until
+from tests.support import LISTEN, OF_ROOT, connect, is_read, needs_proved_program, of_b, topic, user, wait_until
 
 SETTINGS = OF_ROOT + topic("b")
 GRACE = 5  # seconds, if nothing is said of it
@@ -57,7 +57,9 @@ class Wrapped(BrokerProcess):
             (root / "tools").mkdir()
             (root / "crates/kbroker/out").mkdir(parents=True)
             (root / "crates/kbroker/out/kbroker").symlink_to(Path(self.program).resolve())
-            (root / "tools/program.py").symlink_to("/bin/true")
+            chosen = root / "tools/chosen.py"
+            chosen.write_text(f"#!/bin/sh\necho {root}/crates/kbroker/out/kbroker\n")
+            chosen.chmod(0o755)
             (root / "kbroker").write_bytes((ROOT / "kbroker").read_bytes())
             (root / "kbroker").chmod(0o755)
             self.program = str(root / "kbroker")
@@ -174,6 +176,7 @@ class Inputs(StoppingCase):
         """It is answered, and nothing that was asked after the stop. Where this test stands still it misses the moment, and tries again."""
         self.assertTrue(any(self.is_held_at_the_stop() for _ in range(ROUNDS)), "no answer was held back at a stop")
 
+    @needs_proved_program("with checks it is late")
     def test_a_peer_that_reads_nothing(self):
         """Its connection is closed after the grace, which is told before the session ends."""
         for more, grace in ((("--grace", "1"), 1), ((), GRACE)):
@@ -184,6 +187,7 @@ class Inputs(StoppingCase):
                 self.assertGreater(time.monotonic() - began, grace - 0.1)
                 self.assertEqual((settled.sessions, told), (1, [CLOSED.format(0, grace), of_user(0, "root", WRITE_FAILED)]))
 
+    @needs_proved_program("with checks it is late")
     def test_each_that_is_closed_is_named(self):
         """By its session; one that ends at the stop isn't."""
         with Stopped(SETTINGS, more=("--grace", "1")) as broker, contextlib.ExitStack() as stack:
@@ -275,6 +279,7 @@ class Drawn(StoppingCase):
                 client.ask(asked, **fields[asked])
                 answered.append(asked)
 
+    @needs_proved_program("with checks it is late")
     def test_at_random_moments(self):
         """All have logged in before, so each is a session, however long the threads of this test take."""
         for seed in range(DRAWN):

@@ -17,7 +17,7 @@ from kbroker_testing.broker import BrokerProcess, ClockedKbroker
 from kbroker_testing.codes import Code
 from kbroker_testing.protocol import Connection, logged_in
 from tests.server.told import without_waits
-from tests.support import OF_ROOT, connect, topic, wait_until
+from tests.support import OF_ROOT, connect, needs_proved_program, topic, wait_until
 
 SETTINGS = OF_ROOT + topic("b")
 STRANGERS = 5_000
@@ -70,6 +70,7 @@ class Strangers(unittest.TestCase):
         [line] = without_waits(server.told())
         self.assertTrue(line.startswith(FAILED), line)
 
+    @needs_proved_program("memory is measured, of which checks take more")
     def test_an_endless_server(self):
         """Strangers come and go, no connection can be accepted for a while, and a client is answered all the same."""
         with Endless(SETTINGS) as server:
