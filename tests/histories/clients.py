@@ -197,7 +197,7 @@ class TransactionalProducer(Client):
         elif how == "fenced":
             self.be_fenced(part)
         else:
-            self.leave()
+            self.leave(part)
         return False
 
     def end_as(self, how):
@@ -231,14 +231,23 @@ class TransactionalProducer(Client):
         self.kill()
         self.broker = other
 
-    def leave(self):
+    def leave(self, part):
         """Lets the time pass, if that is short, and leaves the transaction open."""
         if self.timeout == SHORT and self.is_drawn(0.7):
-            time.sleep(2 * SHORT / 1000)
+            self.wait_for_its_time(part)
             if not self.broker.ask("EndTxn", committed=True, **self.who)["error"]:
                 raise Unexpected(f"{self.name} commits after its time")
         self.kill()
         self.connect()
+
+    def wait_for_its_time(self, part):
+        """Waits until the broker has ended the transaction, which the load of the machine may delay: then none is added to it."""
+        [name, index], until = part, time.monotonic() + PATIENCE
+        topics = [{"topic": name, "partitions": [index]}]
+        while partition_of(self.broker.ask("AddPartitionsToTxn", topics=topics, **self.who))["error"] == Code.NONE:
+            if time.monotonic() > until:
+                raise Unexpected(f"a transaction of {self.name} outlives its time by {PATIENCE} seconds")
+            time.sleep(SHORT / 1000)
 
 
 class IdempotentProducer(Client):

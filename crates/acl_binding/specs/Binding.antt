@@ -21,7 +21,8 @@ star = codes "*"
 abbrev pub any_principal : List ℕ
 any_principal = codes "User:*"
 
--- a literal name takes in itself, and `*` every name; a prefixed one takes in the names that begin with it
+-- a literal name takes in itself, and `*` every name; a prefixed one takes in the names that begin
+-- with it
 abbrev pub name_covers : Pattern → List ℕ → List ℕ → Bool
 name_covers Literal own name = bytes_eq own name || bytes_eq own star
 name_covers Prefixed own name = starts_with nat_eq name own
@@ -32,16 +33,19 @@ covers b kind name = (kind_number b.kind == kind_number kind) && name_covers b.p
 
 -- the binding is for this principal at this host
 abbrev pub applies : Binding → List ℕ → List ℕ → Bool
-applies b who host = (bytes_eq b.principal who || bytes_eq b.principal any_principal) && (bytes_eq b.host host || bytes_eq b.host star)
+applies b who host =
+    (bytes_eq b.principal who || bytes_eq b.principal any_principal)
+    && (bytes_eq b.host host || bytes_eq b.host star)
 
 -- ---- what it permits
 
 -- the operation, or all of them
 abbrev pub is_of : Operation → Operation → Bool
-is_of own op = (operation_number own == operation_number op) || (operation_number own == operation_number All)
+is_of own op =
+    (operation_number own == operation_number op) || (operation_number own == operation_number All)
 
--- what an ALLOW of the first operation allows of the second: READ, WRITE, DELETE and ALTER imply DESCRIBE, and
--- ALTER_CONFIGS implies DESCRIBE_CONFIGS
+-- what an ALLOW of the first operation allows of the second: READ, WRITE, DELETE and ALTER imply
+-- DESCRIBE, and ALTER_CONFIGS implies DESCRIBE_CONFIGS
 abbrev pub implies : Operation → Operation → Bool
 implies Read Describe = true
 implies Write Describe = true
@@ -62,5 +66,10 @@ allows b op = (permission_number b.permission == permission_number Allow) && imp
 
 -- equal in all seven fields
 abbrev pub same_binding : Binding → Binding → Bool
-same_binding a b = (kind_number a.kind == kind_number b.kind) && (bytes_eq a.name b.name && ((pattern_number a.pattern == pattern_number b.pattern)
-    && (bytes_eq a.principal b.principal && (bytes_eq a.host b.host && ((operation_number a.operation == operation_number b.operation) && (permission_number a.permission == permission_number b.permission))))))
+same_binding a b =
+    (kind_number a.kind == kind_number b.kind)
+    && (bytes_eq a.name b.name && ((pattern_number a.pattern == pattern_number b.pattern)
+    && (bytes_eq a.principal b.principal
+    && (bytes_eq a.host b.host
+    && ((operation_number a.operation == operation_number b.operation)
+    && (permission_number a.permission == permission_number b.permission))))))

@@ -20,7 +20,11 @@ number_of (e ∷ es) b = if same_binding e.binding b then Some e.number else num
 
 -- the book with the binding under its next number
 abbrev pub with_new_binding : BookValue → Binding → BookValue
-with_new_binding book b = record { entries = book.entries ++ record { number = book.next; binding = b } ∷ []; next = book.next + 1 }
+with_new_binding book b =
+    record {
+      entries = book.entries ++ record { number = book.next; binding = b } ∷ [];
+      next = book.next + 1;
+    }
 
 -- the book with the binding: one that stands there already changes nothing
 abbrev pub with_binding : BookValue → Binding → BookValue

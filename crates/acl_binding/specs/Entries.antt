@@ -1,5 +1,5 @@
--- Which entries of a message are bindings and filters (Kafka protocol guide, "CreateAcls API (Key: 30)", "DescribeAcls
--- API (Key: 29)").
+-- Which entries of a message are bindings and filters (Kafka protocol guide, "CreateAcls API (Key:
+-- 30)", "DescribeAcls API (Key: 29)").
 use Rattle.std.specs.Prelude.{ℤ, Option, Some, None, if◌then◌else◌}
 use Rattle.std.specs.Ordering.{int_eq}
 use Rattle.std.specs.Option.{option_map}
@@ -18,8 +18,19 @@ use Rattle.acl_binding.specs.Creatable.{is_creatable}
 -- ---- bindings
 
 -- the binding that an entry with these words is, where all of them are known
-abbrev pub binding_by : BindingEntry → Option Kind → Option Pattern → Option Operation → Option Permission → Option Binding
-binding_by e (Some kind) (Some pattern) (Some operation) (Some permission) = Some (record { kind = kind; name = e.name; pattern = pattern; principal = e.principal; host = e.host; operation = operation; permission = permission })
+abbrev pub binding_by : BindingEntry → Option Kind → Option Pattern → Option Operation
+    → Option Permission → Option Binding
+binding_by e (Some kind) (Some pattern) (Some operation) (Some permission) =
+    Some
+    (record {
+      kind = kind;
+      name = e.name;
+      pattern = pattern;
+      principal = e.principal;
+      host = e.host;
+      operation = operation;
+      permission = permission;
+    })
 binding_by e _ _ _ _ = None
 
 -- the binding, if it may be created
@@ -29,18 +40,35 @@ creatable (Some b) = if is_creatable b then Some b else None
 
 -- the binding that the entry is, if it is one
 abbrev pub binding_of : BindingEntry → Option Binding
-binding_of e = creatable (binding_by e (kind_at e.kind) (pattern_at e.pattern) (operation_at e.operation) (permission_at e.permission))
+binding_of e =
+    creatable
+    (binding_by e (kind_at e.kind) (pattern_at e.pattern) (operation_at e.operation)
+    (permission_at e.permission))
 
 -- ---- filters
 
 -- the word of a number, or any
 abbrev pub or_any : {A : Type 0} → (ℤ → Option A) → ℤ → Option (Option A)
-or_any word_at n = if int_eq n any_number then Some None else option_map (λ word. Some word) (word_at n)
+or_any word_at n =
+    if int_eq n any_number then Some None else option_map (λ word. Some word) (word_at n)
 
-abbrev pub filter_by : FilterEntry → Option (Option Kind) → Option FilterPattern → Option (Option Operation) → Option (Option Permission) → Option Filter
-filter_by e (Some kind) (Some pattern) (Some operation) (Some permission) = Some (record { kind = kind; name = e.name; pattern = pattern; principal = e.principal; host = e.host; operation = operation; permission = permission })
+abbrev pub filter_by : FilterEntry → Option (Option Kind) → Option FilterPattern
+    → Option (Option Operation) → Option (Option Permission) → Option Filter
+filter_by e (Some kind) (Some pattern) (Some operation) (Some permission) =
+    Some
+    (record {
+      kind = kind;
+      name = e.name;
+      pattern = pattern;
+      principal = e.principal;
+      host = e.host;
+      operation = operation;
+      permission = permission;
+    })
 filter_by e _ _ _ _ = None
 
 -- the filter that the entry is, if it is one
 abbrev pub filter_of : FilterEntry → Option Filter
-filter_of e = filter_by e (or_any kind_at e.kind) (filter_pattern_at e.pattern) (or_any operation_at e.operation) (or_any permission_at e.permission)
+filter_of e =
+    filter_by e (or_any kind_at e.kind) (filter_pattern_at e.pattern)
+    (or_any operation_at e.operation) (or_any permission_at e.permission)

@@ -1,4 +1,5 @@
--- What a filter picks (Kafka, AclBindingFilter; KIP-290 for the patterns ANY, MATCH, LITERAL and PREFIXED).
+-- What a filter picks (Kafka, AclBindingFilter; KIP-290 for the patterns ANY, MATCH, LITERAL and
+-- PREFIXED).
 use Rattle.std.specs.Prelude.{ℕ, Bool, true, ◌&&◌, not, List, [], ◌∷◌, filter, ◌==◌, if◌then◌else◌, Option, Some, None}
 use Rattle.std.specs.Str.{bytes_eq}
 use Rattle.acl_binding.specs.declared.words.Pattern.TheVariants.{Literal, Prefixed}
@@ -36,17 +37,21 @@ abbrev pub covering_fits : Option (List ℕ) → Binding → Bool
 covering_fits None b = true
 covering_fits (Some name) b = name_covers b.pattern b.name name
 
--- LITERAL and PREFIXED want that pattern and an equal name, ANY an equal name, MATCH a binding that covers the name
+-- LITERAL and PREFIXED want that pattern and an equal name, ANY an equal name, MATCH a binding that
+-- covers the name
 abbrev pub name_fits : FilterPattern → Option (List ℕ) → Binding → Bool
 name_fits wanted.Any name b = text_fits name b.name
 name_fits wanted.Match name b = covering_fits name b
-name_fits wanted.Literal name b = (pattern_number b.pattern == pattern_number Literal) && text_fits name b.name
-name_fits wanted.Prefixed name b = (pattern_number b.pattern == pattern_number Prefixed) && text_fits name b.name
+name_fits wanted.Literal name b =
+    (pattern_number b.pattern == pattern_number Literal) && text_fits name b.name
+name_fits wanted.Prefixed name b =
+    (pattern_number b.pattern == pattern_number Prefixed) && text_fits name b.name
 
 -- each field of the binding is what is wanted
 abbrev pub matches : Filter → Binding → Bool
 matches f b = (kind_fits f.kind b.kind && name_fits f.pattern f.name b)
-    && ((text_fits f.principal b.principal && text_fits f.host b.host) && (operation_fits f.operation b.operation && permission_fits f.permission b.permission))
+    && ((text_fits f.principal b.principal && text_fits f.host b.host)
+    && (operation_fits f.operation b.operation && permission_fits f.permission b.permission))
 
 -- the filter doesn't pick the binding
 abbrev pub is_not_matched : Filter → Numbered → Bool
@@ -55,7 +60,8 @@ is_not_matched f e = not (matches f e.binding)
 -- the bindings that the filter picks, in creation order
 abbrev pub matching_bindings : List Numbered → Filter → List Binding
 matching_bindings [] f = []
-matching_bindings (e ∷ es) f = if matches f e.binding then e.binding ∷ matching_bindings es f else matching_bindings es f
+matching_bindings (e ∷ es) f =
+    if matches f e.binding then e.binding ∷ matching_bindings es f else matching_bindings es f
 
 -- the book without them; the next number stays, so that none is used again
 abbrev pub without_matching : BookValue → Filter → BookValue

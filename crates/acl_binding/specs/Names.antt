@@ -1,4 +1,5 @@
--- The names that the words of a binding have in settings and in lines of the audit (those of Kafka's own tools).
+-- The names that the words of a binding have in settings and in lines of the audit (those of
+-- Kafka's own tools).
 use Rattle.std.specs.Prelude.{ℕ, List, [], ◌∷◌, Option, codes}
 use Rattle.std.specs.List.{find}
 use Rattle.std.specs.Str.{bytes_eq}
@@ -53,7 +54,9 @@ abbrev pub pattern_named : List ℕ → Option Pattern
 pattern_named name = find (λ p. bytes_eq (pattern_name p) name) all_patterns
 
 abbrev pub all_operations : List Operation
-all_operations = All ∷ Read ∷ Write ∷ Create ∷ Delete ∷ Alter ∷ Describe ∷ ClusterAction ∷ DescribeConfigs ∷ AlterConfigs ∷ IdempotentWrite ∷ []
+all_operations =
+    All ∷ Read ∷ Write ∷ Create ∷ Delete ∷ Alter ∷ Describe ∷ ClusterAction ∷ DescribeConfigs
+    ∷ AlterConfigs ∷ IdempotentWrite ∷ []
 
 abbrev pub operation_named : List ℕ → Option Operation
 operation_named name = find (λ op. bytes_eq (operation_name op) name) all_operations

@@ -1,4 +1,5 @@
--- What bindings answer to a question (Kafka documentation, 'Authorization and ACLs'): deny before allow.
+-- What bindings answer to a question (Kafka documentation, 'Authorization and ACLs'): deny before
+-- allow.
 use Rattle.std.specs.Prelude.{◌≡◌, ℕ, ◌≤◌, min, Bool, true, false, ◌&&◌, List, [], ◌∷◌, All, Any, if◌then◌else◌, Option, Some, None}
 use Rattle.std.specs.List.{list_any}
 use Rattle.acl_binding.specs.declared.words.Kind.{Kind}
@@ -13,7 +14,8 @@ use Rattle.acl_binding.specs.Binding.{covers, applies, denies, allows}
 
 -- may the caller do this with the resource of this name?
 abbrev pub question_of : Caller → Operation → Kind → List ℕ → Question
-question_of caller op kind name = record { who = caller.who; host = caller.host; op = op; kind = kind; name = name }
+question_of caller op kind name =
+    record { who = caller.who; host = caller.host; op = op; kind = kind; name = name }
 
 -- the binding covers, applies and denies
 abbrev pub is_denial : Question → Binding → Bool

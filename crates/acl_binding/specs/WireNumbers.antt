@@ -1,5 +1,5 @@
--- The words of a binding and of a filter by the numbers that the protocol gives them (Kafka, ResourceType, PatternType,
--- AclOperation and AclPermissionType; KIP-140, KIP-290).
+-- The words of a binding and of a filter by the numbers that the protocol gives them (Kafka,
+-- ResourceType, PatternType, AclOperation and AclPermissionType; KIP-140, KIP-290).
 use Rattle.std.specs.Prelude.{ℕ, ℤ, pos, List, [], ◌∷◌, Option}
 use Rattle.std.specs.List.{find}
 use Rattle.std.specs.Ordering.{int_eq}

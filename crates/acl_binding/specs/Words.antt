@@ -1,5 +1,5 @@
--- The numbers that the protocol gives the words of a binding (Kafka, ResourceType, PatternType, AclOperation and
--- AclPermissionType; KIP-140, KIP-290).
+-- The numbers that the protocol gives the words of a binding (Kafka, ResourceType, PatternType,
+-- AclOperation and AclPermissionType; KIP-140, KIP-290).
 use Rattle.std.specs.Prelude.{ℕ}
 use Rattle.acl_binding.specs.declared.words.Kind.{Kind}
 use Rattle.acl_binding.specs.declared.words.Kind.TheVariants.{Topic, Group, Cluster, TransactionalId}

@@ -1,4 +1,5 @@
--- CreateAcls: bindings are added to the book, entry by entry (Kafka protocol guide, "CreateAcls API (Key: 30)").
+-- CreateAcls: bindings are added to the book, entry by entry (Kafka protocol guide, "CreateAcls API
+-- (Key: 30)").
 use Rattle.std.specs.Prelude.{pos, List, [], ◌∷◌, map, Option, Some, None}
 use Rattle.wire_types.specs.declared.error_code.ErrorCode.{ErrorCode}
 use Rattle.wire_types.specs.declared.error_code.ErrorCode.TheVariants as codes
@@ -51,5 +52,9 @@ create_acls_reply results = record { throttle = pos 0; results = results }
 -- refused, each entry is answered with the code
 abbrev pub create_acls_outcome : World → Caller → CreateAclsRequest → HandlerResult
 create_acls_outcome w caller r = whole_outcome w (alter_questions caller)
-    (λ code. replies.CreateAcls (create_acls_reply (map (λ (e : BindingEntry). creation_result_with code) r.creations)))
-    (record { world = record w { book = book_created w.book r.creations }; reply = replies.CreateAcls (create_acls_reply (map creation_result r.creations)) })
+    (λ code. replies.CreateAcls
+    (create_acls_reply (map (λ (e : BindingEntry). creation_result_with code) r.creations)))
+    (record {
+      world = record w { book = book_created w.book r.creations };
+      reply = replies.CreateAcls (create_acls_reply (map creation_result r.creations));
+    })

@@ -1,4 +1,5 @@
--- DeleteAcls: what filters pick is taken out of the book, filter by filter (Kafka protocol guide, "DeleteAcls API (Key: 31)").
+-- DeleteAcls: what filters pick is taken out of the book, filter by filter (Kafka protocol guide,
+-- "DeleteAcls API (Key: 31)").
 use Rattle.std.specs.Prelude.{pos, List, [], ◌∷◌, map, Option, Some, None}
 use Rattle.wire_types.specs.declared.error_code.ErrorCode.{ErrorCode}
 use Rattle.wire_types.specs.declared.error_code.ErrorCode.TheVariants as codes
@@ -30,7 +31,16 @@ book_without book (Some f) = without_matching book f
 
 -- the binding as it stands in a message
 abbrev pub entry_of_binding : Binding → BindingEntry
-entry_of_binding b = record { kind = kind_code b.kind; name = b.name; pattern = pattern_code b.pattern; principal = b.principal; host = b.host; operation = operation_code b.operation; permission = permission_code b.permission }
+entry_of_binding b =
+    record {
+      kind = kind_code b.kind;
+      name = b.name;
+      pattern = pattern_code b.pattern;
+      principal = b.principal;
+      host = b.host;
+      operation = operation_code b.operation;
+      permission = permission_code b.permission;
+    }
 
 abbrev pub deleted_acl : Binding → DeletedAcl
 deleted_acl b = record { error = codes.None; message = None; binding = entry_of_binding b }
@@ -41,7 +51,12 @@ deletion_error code = record { error = code; message = None; matches = [] }
 -- what the filter took out, in creation order
 abbrev pub deletion_result : BookValue → Option Filter → DeletedAcls
 deletion_result book None = deletion_error codes.InvalidRequest
-deletion_result book (Some f) = record { error = codes.None; message = None; matches = map deleted_acl (matching_bindings book.entries f) }
+deletion_result book (Some f) =
+    record {
+      error = codes.None;
+      message = None;
+      matches = map deleted_acl (matching_bindings book.entries f);
+    }
 
 -- ---- the filters, each on what the earlier ones left
 
@@ -51,7 +66,8 @@ book_deleted book (e ∷ es) = book_deleted (book_without book (filter_of e)) es
 
 abbrev pub deletion_results : BookValue → List FilterEntry → List DeletedAcls
 deletion_results book [] = []
-deletion_results book (e ∷ es) = deletion_result book (filter_of e) ∷ deletion_results (book_without book (filter_of e)) es
+deletion_results book (e ∷ es) =
+    deletion_result book (filter_of e) ∷ deletion_results (book_without book (filter_of e)) es
 
 abbrev pub delete_acls_reply : List DeletedAcls → DeleteAclsReply
 delete_acls_reply results = record { throttle = pos 0; results = results }
@@ -59,5 +75,9 @@ delete_acls_reply results = record { throttle = pos 0; results = results }
 -- refused, each filter is answered with the code
 abbrev pub delete_acls_outcome : World → Caller → DeleteAclsRequest → HandlerResult
 delete_acls_outcome w caller r = whole_outcome w (alter_questions caller)
-    (λ code. replies.DeleteAcls (delete_acls_reply (map (λ (e : FilterEntry). deletion_error code) r.filters)))
-    (record { world = record w { book = book_deleted w.book r.filters }; reply = replies.DeleteAcls (delete_acls_reply (deletion_results w.book r.filters)) })
+    (λ code. replies.DeleteAcls
+    (delete_acls_reply (map (λ (e : FilterEntry). deletion_error code) r.filters)))
+    (record {
+      world = record w { book = book_deleted w.book r.filters };
+      reply = replies.DeleteAcls (delete_acls_reply (deletion_results w.book r.filters));
+    })

@@ -20,7 +20,13 @@ groups_of seen = map (group_of seen) (first_of_each [] seen)
 
 -- a resource with its first binding, and with one more, the last
 abbrev pub resource_with : Binding → DescribedResource
-resource_with b = record { kind = kind_code b.kind; name = b.name; pattern = pattern_code b.pattern; acls = described_acl b ∷ [] }
+resource_with b =
+    record {
+      kind = kind_code b.kind;
+      name = b.name;
+      pattern = pattern_code b.pattern;
+      acls = described_acl b ∷ [];
+    }
 
 abbrev pub resource_with_next : DescribedResource → Binding → DescribedResource
 resource_with_next r b = record r { acls = r.acls ++ described_acl b ∷ [] }

@@ -20,7 +20,8 @@ abbrev pub cost : Option ℕ → ℕ → ℕ
 cost None things = 0
 cost (Some rate) things = min (things * second / max rate 1) last_moment
 
--- a request of so many bytes costs what is the dearer of it, that it is one and that it has these bytes
+-- a request of so many bytes costs what is the dearer of it, that it is one and that it has these
+-- bytes
 abbrev pub price : Rate → ℕ → ℕ
 price rate bytes = max (cost rate.requests 1) (cost rate.bytes bytes)
 

@@ -18,7 +18,9 @@ abbrev pub total : Rate → List Sent → ℕ
 total rate [] = 0
 total rate (s ∷ more) = price rate s.bytes + total rate more
 
--- At each moment at which a user is let go on, its requests so far cost no more than the time since the first of them, and a second.
+-- At each moment at which a user is let go on, its requests so far cost no more than the time since
+-- the first of them, and a second.
 pub record RateIsKept : Type 0 where
-  pub kept : (rate : Rate) (first : Sent) (more : List Sent) (now : ℕ) → paid_for rate 0 (first ∷ more) ≤ now + second
+  pub kept : (rate : Rate) (first : Sent) (more : List Sent) (now : ℕ)
+      → paid_for rate 0 (first ∷ more) ≤ now + second
       → min (first.moment + total rate (first ∷ more)) last_moment ≤ now + second

@@ -4,7 +4,8 @@ use Rattle.std.specs.declared.net.ip_addr.IpAddr.{IpAddr}
 use Rattle.std.specs.Net.Addr.{MatchIp, IsCanonicalOf}
 use Rattle.std.specs.Net.Text.{ip_text}
 
--- an IPv4 address inside one of IPv6 counts as that (RFC 4291, section 2.5.5.2), and any other as it is
+-- an IPv4 address inside one of IPv6 counts as that (RFC 4291, section 2.5.5.2), and any other as
+-- it is
 abbrev pub IsAddressOf : IpAddr → IpAddr → Type 0
 IsAddressOf peer address = MatchIp peer (λ _. address ≡ peer) (λ six. IsCanonicalOf six address)
 

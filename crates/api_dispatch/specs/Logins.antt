@@ -1,5 +1,6 @@
--- What each caller is told: the apis that are served, and that the mechanism of its login can't be chosen, nor a password told,
--- once it is logged in (Kafka protocol guide, "SASL Authentication Sequence"). It asks nothing and changes nothing.
+-- What each caller is told: the apis that are served, and that the mechanism of its login can't be
+-- chosen, nor a password told, once it is logged in (Kafka protocol guide, "SASL Authentication
+-- Sequence"). It asks nothing and changes nothing.
 use Rattle.std.specs.Prelude.{[]}
 use Rattle.wire_types.specs.declared.error_code.ErrorCode.TheVariants as codes
 use Rattle.msg_login.specs.SaslHandshake.{handshake_reply}
@@ -17,7 +18,9 @@ abbrev pub api_versions_outcome : World → HandlerResult
 api_versions_outcome w = reply_outcome w (replies.ApiVersions versions_reply)
 
 abbrev pub sasl_handshake_outcome : World → HandlerResult
-sasl_handshake_outcome w = reply_outcome w (replies.SaslHandshake (handshake_reply codes.IllegalSaslState))
+sasl_handshake_outcome w =
+    reply_outcome w (replies.SaslHandshake (handshake_reply codes.IllegalSaslState))
 
 abbrev pub sasl_authenticate_outcome : World → HandlerResult
-sasl_authenticate_outcome w = reply_outcome w (replies.SaslAuthenticate (authenticate_reply codes.IllegalSaslState))
+sasl_authenticate_outcome w =
+    reply_outcome w (replies.SaslAuthenticate (authenticate_reply codes.IllegalSaslState))

@@ -1,22 +1,28 @@
--- All that a request asks to be allowed, part by part and in order (Kafka documentation, 'Authorization and ACLs':
--- 'Operations and Resources on Protocols'). A part is granted where each of its questions is, and else refused at the
--- first that isn't.
+-- All that a request asks to be allowed, part by part and in order (Kafka documentation,
+-- 'Authorization and ACLs': 'Operations and Resources on Protocols'). A part is granted where each
+-- of its questions is, and else refused at the first that isn't.
 --
---   Produce               each partition: to write with the transactional id, if one is given; to write the topic
+--   Produce               each partition: to write with the transactional id, if one is given; to
+--                         write the topic
 --   Fetch                 each partition: to read the topic
 --   ListOffsets           each partition: to describe the topic
 --   Metadata              each named topic: to describe it
 --   OffsetCommit          each partition: to read the group; to read the topic
---   OffsetFetch           first the request: to describe the group; then each named partition: to describe the topic
---   FindCoordinator       the request: to describe the group or the transactional id; nothing for another type of key
+--   OffsetFetch           first the request: to describe the group; then each named partition: to
+--                         describe the topic
+--   FindCoordinator       the request: to describe the group or the transactional id; nothing for
+--                         another type of key
 --   JoinGroup, SyncGroup, Heartbeat, LeaveGroup
 --                         the request: to read the group
---   InitProducerId        the request: to write with the transactional id, or without one to write idempotently to the cluster;
---                         without one nothing, where that isn't granted but bindings let the caller write to some topic
+--   InitProducerId        the request: to write with the transactional id, or without one to write
+--                         idempotently to the cluster;
+--                         without one nothing, where that isn't granted but bindings let the caller
+--                         write to some topic
 --   AddPartitionsToTxn    each partition: to write with the transactional id; to write the topic
 --   AddOffsetsToTxn       the request: to write with the transactional id; to read the group
 --   EndTxn                the request: to write with the transactional id
---   TxnOffsetCommit       each partition: to write with the transactional id; to read the group; to read the topic
+--   TxnOffsetCommit       each partition: to write with the transactional id; to read the group; to
+--                         read the topic
 --   DescribeAcls          the request: to describe the cluster
 --   CreateAcls, DeleteAcls
 --                         the request: to alter the cluster
@@ -58,13 +64,16 @@ fetch_questions caller name = question_of caller operations.Read kinds.Topic nam
 -- what the request itself asks; nothing, where its parts are asked for alone
 abbrev pub asks_itself : Rules → Caller → Request → List Question
 asks_itself rules caller (requests.OffsetFetch r) = group_question caller r.group ∷ []
-asks_itself rules caller (requests.FindCoordinator r) = find_questions caller (kind_of r.key_type) r.key
+asks_itself rules caller (requests.FindCoordinator r) =
+    find_questions caller (kind_of r.key_type) r.key
 asks_itself rules caller (requests.JoinGroup r) = read_question caller r.group ∷ []
 asks_itself rules caller (requests.Heartbeat r) = read_question caller r.group ∷ []
 asks_itself rules caller (requests.LeaveGroup r) = read_question caller r.group ∷ []
 asks_itself rules caller (requests.SyncGroup r) = read_question caller r.group ∷ []
-asks_itself rules caller (requests.InitProducerId r) = init_questions rules caller r.transactional_id
-asks_itself rules caller (requests.AddOffsetsToTxn r) = add_offsets_questions caller r.transactional_id r.group
+asks_itself rules caller (requests.InitProducerId r) =
+    init_questions rules caller r.transactional_id
+asks_itself rules caller (requests.AddOffsetsToTxn r) =
+    add_offsets_questions caller r.transactional_id r.group
 asks_itself rules caller (requests.EndTxn r) = end_questions caller r
 asks_itself rules caller (requests.DescribeAcls r) = describe_acls_questions caller
 asks_itself rules caller (requests.CreateAcls r) = alter_questions caller
@@ -77,7 +86,8 @@ event_asks rules (Ask caller client request) = asks_itself rules caller request
 event_asks rules Mark = []
 event_asks rules (Tick told) = []
 
--- what each of its parts asks that is of the topic of this name: a partition, or in Metadata the topic
+-- what each of its parts asks that is of the topic of this name: a partition, or in Metadata the
+-- topic
 abbrev pub asks_at : Caller → Request → List ℕ → List Question
 asks_at caller (requests.Produce r) name = produce_questions caller r.transactional_id name
 asks_at caller (requests.Fetch r) name = fetch_questions caller name
@@ -90,8 +100,10 @@ asks_at caller (requests.TxnOffsetCommit r) name = stage_questions caller (stagi
 asks_at caller request name = []
 
 -- each partition is a part, and asks by its topic
-abbrev pub partition_parts : {P : Type 0} → (List ℕ → List Question) → List (Topic P) → List (List Question)
-partition_parts {P} asks ts = flat_map (λ (t : Topic P). map (λ (p : P). asks t.name) t.partitions) ts
+abbrev pub partition_parts : {P : Type 0} → (List ℕ → List Question) → List (Topic P)
+    → List (List Question)
+partition_parts {P} asks ts =
+    flat_map (λ (t : Topic P). map (λ (p : P). asks t.name) t.partitions) ts
 
 -- each topic is a part; a null list has none
 abbrev pub topic_parts : Caller → Option (List (List ℕ)) → List (List Question)
@@ -104,28 +116,43 @@ offset_parts caller (Some ts) = partition_parts (topic_part caller) ts
 
 -- what each part of the request asks, in order
 abbrev pub parts_of : Rules → Caller → Request → List (List Question)
-parts_of rules caller (requests.Produce r) = partition_parts (asks_at caller (requests.Produce r)) r.topics
-parts_of rules caller (requests.Fetch r) = partition_parts (asks_at caller (requests.Fetch r)) r.topics
-parts_of rules caller (requests.ListOffsets r) = partition_parts (asks_at caller (requests.ListOffsets r)) r.topics
+parts_of rules caller (requests.Produce r) =
+    partition_parts (asks_at caller (requests.Produce r)) r.topics
+parts_of rules caller (requests.Fetch r) =
+    partition_parts (asks_at caller (requests.Fetch r)) r.topics
+parts_of rules caller (requests.ListOffsets r) =
+    partition_parts (asks_at caller (requests.ListOffsets r)) r.topics
 parts_of rules caller (requests.Metadata r) = topic_parts caller r.topics
-parts_of rules caller (requests.OffsetCommit r) = partition_parts (asks_at caller (requests.OffsetCommit r)) r.topics
-parts_of rules caller (requests.OffsetFetch r) = asks_itself rules caller (requests.OffsetFetch r) ∷ offset_parts caller r.topics
-parts_of rules caller (requests.AddPartitionsToTxn r) = partition_parts (asks_at caller (requests.AddPartitionsToTxn r)) r.topics
-parts_of rules caller (requests.TxnOffsetCommit r) = partition_parts (asks_at caller (requests.TxnOffsetCommit r)) r.topics
+parts_of rules caller (requests.OffsetCommit r) =
+    partition_parts (asks_at caller (requests.OffsetCommit r)) r.topics
+parts_of rules caller (requests.OffsetFetch r) =
+    asks_itself rules caller (requests.OffsetFetch r) ∷ offset_parts caller r.topics
+parts_of rules caller (requests.AddPartitionsToTxn r) =
+    partition_parts (asks_at caller (requests.AddPartitionsToTxn r)) r.topics
+parts_of rules caller (requests.TxnOffsetCommit r) =
+    partition_parts (asks_at caller (requests.TxnOffsetCommit r)) r.topics
 parts_of rules caller request = asks_itself rules caller request ∷ []
 
--- The parts that are walked, one after the other, where permits are spent for them: all but the part that stands for the
--- request. Of an AddPartitionsToTxn that is cut none, after a group that may not be described none; and under a null list
--- each topic there is, though it may not be described.
+-- The parts that are walked, one after the other, where permits are spent for them: all but the
+-- part that stands for the request. Of an AddPartitionsToTxn that is cut none, after a group that
+-- may not be described none; and under a null list each topic there is, though it may not be
+-- described.
 abbrev pub parts_walked : World → Caller → Request → List (List Question)
-parts_walked w caller (requests.Produce r) = partition_parts (asks_at caller (requests.Produce r)) r.topics
-parts_walked w caller (requests.Fetch r) = partition_parts (asks_at caller (requests.Fetch r)) r.topics
-parts_walked w caller (requests.ListOffsets r) = partition_parts (asks_at caller (requests.ListOffsets r)) r.topics
+parts_walked w caller (requests.Produce r) =
+    partition_parts (asks_at caller (requests.Produce r)) r.topics
+parts_walked w caller (requests.Fetch r) =
+    partition_parts (asks_at caller (requests.Fetch r)) r.topics
+parts_walked w caller (requests.ListOffsets r) =
+    partition_parts (asks_at caller (requests.ListOffsets r)) r.topics
 parts_walked w caller (requests.Metadata r) = metadata_parts w caller r.topics
-parts_walked w caller (requests.OffsetCommit r) = partition_parts (asks_at caller (requests.OffsetCommit r)) r.topics
+parts_walked w caller (requests.OffsetCommit r) =
+    partition_parts (asks_at caller (requests.OffsetCommit r)) r.topics
 parts_walked w caller (requests.OffsetFetch r) = fetch_parts w caller r
-parts_walked w caller (requests.AddPartitionsToTxn r) = if is_cut caller r.transactional_id w.topics (rules_of w) r.topics then [] else partition_parts (asks_at caller (requests.AddPartitionsToTxn r)) r.topics
-parts_walked w caller (requests.TxnOffsetCommit r) = partition_parts (asks_at caller (requests.TxnOffsetCommit r)) r.topics
+parts_walked w caller (requests.AddPartitionsToTxn r) =
+    if is_cut caller r.transactional_id w.topics (rules_of w) r.topics then []
+    else partition_parts (asks_at caller (requests.AddPartitionsToTxn r)) r.topics
+parts_walked w caller (requests.TxnOffsetCommit r) =
+    partition_parts (asks_at caller (requests.TxnOffsetCommit r)) r.topics
 parts_walked w caller request = []
 
 abbrev pub event_parts : World → Event → List (List Question)

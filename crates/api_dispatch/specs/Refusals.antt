@@ -1,5 +1,5 @@
--- The refusals of a request are those of its parts: for each part that isn't granted the first of its questions that
--- isn't, in order.
+-- The refusals of a request are those of its parts: for each part that isn't granted the first of
+-- its questions that isn't, in order.
 use Rattle.std.specs.Prelude.{◌≡◌, ℕ, List, [], ◌∷◌, Option, Some, None}
 use Rattle.std.specs.List.{filter_map}
 use Rattle.acl_binding.specs.declared.question.Caller.{Caller}
@@ -25,7 +25,9 @@ refusal_or_rest None rest = rest
 
 -- the refusals of a request: those of its parts
 abbrev pub request_refusals : Rules → Caller → Request → List Refusal
-request_refusals rules caller (OffsetFetch r) = refusal_or_rest (part_refusal rules (group_question caller r.group ∷ [])) (refusals_in rules (offset_parts caller r.topics))
+request_refusals rules caller (OffsetFetch r) =
+    refusal_or_rest (part_refusal rules (group_question caller r.group ∷ []))
+    (refusals_in rules (offset_parts caller r.topics))
 request_refusals rules caller request = refusals_in rules (parts_of rules caller request)
 
 -- so the parts and their questions are those that are asked

@@ -1,4 +1,5 @@
--- One event: the plain answer to the allowed part of a request, with each refused part's code at its place.
+-- One event: the plain answer to the allowed part of a request, with each refused part's code at
+-- its place.
 use Rattle.std.specs.Prelude.{Bool, true, false, ◌+◌, List, [], ◌∷◌}
 use Rattle.acl_binding.specs.declared.question.Caller.{Caller}
 use Rattle.authorizer.specs.declared.answer.Refusal.{Refusal}

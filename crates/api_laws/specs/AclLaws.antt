@@ -27,17 +27,20 @@ abbrev pub IsOfEntry : List BindingEntry → Binding → Type 0
 IsOfEntry [] b = ⊥
 IsOfEntry (e ∷ es) b = (binding_of e ≡ Some b) ⊎ IsOfEntry es b
 
--- each entry that is a binding stands in the book, whatever the other entries are; all that stood there stands before what is
--- new, and each that is new is an entry
+-- each entry that is a binding stands in the book, whatever the other entries are; all that stood
+-- there stands before what is new, and each that is new is an entry
 pub record AreCreated (entries : List BindingEntry) (old new : List Numbered) : Type 0 where
-  pub each : AllByRecursion (λ e. IfSome (binding_of e) (λ b. is_some (number_of new b) ≡ true)) entries
+  pub each : AllByRecursion (λ e. IfSome (binding_of e) (λ b. is_some (number_of new b) ≡ true))
+      entries
   pub more : List Numbered
   pub kept : new ≡ old ++ more
   pub sent : AllByRecursion (λ (n : Numbered). IsOfEntry entries n.binding) more
 
 -- after a CreateAcls that is granted
 abbrev pub CreatesEach : Type 0
-CreatesEach = (w : World) (caller : Caller) (r : CreateAclsRequest) → part_refusal (rules_of w) (alter_questions caller) ≡ None
+CreatesEach =
+    (w : World) (caller : Caller) (r : CreateAclsRequest)
+    → part_refusal (rules_of w) (alter_questions caller) ≡ None
     → AreCreated r.creations w.book.entries (create_acls_outcome w caller r).world.book.entries
 
 -- a binding stands in the book with its number
@@ -45,15 +48,20 @@ abbrev pub StandsIn : List Numbered → Numbered → Type 0
 StandsIn [] n = ⊥
 StandsIn (x ∷ xs) n = (x ≡ n) ⊎ StandsIn xs n
 
--- no filter picks anything any more; a binding that none picks stands there as before, and nothing else does
+-- no filter picks anything any more; a binding that none picks stands there as before, and nothing
+-- else does
 pub record AreDeleted (filters : List FilterEntry) (old new : List Numbered) : Type 0 where
   pub each : AllByRecursion (λ e. IfSome (filter_of e) (λ f. matching_bindings new f ≡ [])) filters
-  pub kept : (n : Numbered) → StandsIn old n → AllByRecursion (λ e. IfSome (filter_of e) (λ f. matches f n.binding ≡ false)) filters → StandsIn new n
+  pub kept : (n : Numbered) → StandsIn old n
+      → AllByRecursion (λ e. IfSome (filter_of e) (λ f. matches f n.binding ≡ false)) filters
+      → StandsIn new n
   pub alone : (n : Numbered) → StandsIn new n → StandsIn old n
 
 -- after a DeleteAcls that is granted
 abbrev pub DeletesEach : Type 0
-DeletesEach = (w : World) (caller : Caller) (r : DeleteAclsRequest) → part_refusal (rules_of w) (alter_questions caller) ≡ None
+DeletesEach =
+    (w : World) (caller : Caller) (r : DeleteAclsRequest)
+    → part_refusal (rules_of w) (alter_questions caller) ≡ None
     → AreDeleted r.filters w.book.entries (delete_acls_outcome w caller r).world.book.entries
 
 -- a request that is refused by the book of before changes nothing, and its refusal is the only one
@@ -62,8 +70,12 @@ pub record IsRefusedWhole (w : World) (r : Refusal) (outcome : HandlerResult) : 
   pub refusals : outcome.refusals ≡ r ∷ []
 
 pub record RefusedEditNothing : Type 0 where
-  pub create : (w : World) (caller : Caller) (q : CreateAclsRequest) (r : Refusal) → part_refusal (rules_of w) (alter_questions caller) ≡ Some r → IsRefusedWhole w r (create_acls_outcome w caller q)
-  pub delete : (w : World) (caller : Caller) (q : DeleteAclsRequest) (r : Refusal) → part_refusal (rules_of w) (alter_questions caller) ≡ Some r → IsRefusedWhole w r (delete_acls_outcome w caller q)
+  pub create : (w : World) (caller : Caller) (q : CreateAclsRequest) (r : Refusal)
+      → part_refusal (rules_of w) (alter_questions caller) ≡ Some r
+      → IsRefusedWhole w r (create_acls_outcome w caller q)
+  pub delete : (w : World) (caller : Caller) (q : DeleteAclsRequest) (r : Refusal)
+      → part_refusal (rules_of w) (alter_questions caller) ≡ Some r
+      → IsRefusedWhole w r (delete_acls_outcome w caller q)
 
 -- worlds of one book give the same answer, and leave one book
 pub record SameEdit (a b : HandlerResult) : Type 0 where
@@ -71,11 +83,16 @@ pub record SameEdit (a b : HandlerResult) : Type 0 where
   pub book : a.world.book ≡ b.world.book
 
 pub record AclsDependOnTheBook : Type 0 where
-  pub describe : (v w : World) (caller : Caller) (r : DescribeAclsRequest) → SameBase v w → SameEdit (describe_acls_outcome v caller r) (describe_acls_outcome w caller r)
-  pub create : (v w : World) (caller : Caller) (r : CreateAclsRequest) → SameBase v w → SameEdit (create_acls_outcome v caller r) (create_acls_outcome w caller r)
-  pub delete : (v w : World) (caller : Caller) (r : DeleteAclsRequest) → SameBase v w → SameEdit (delete_acls_outcome v caller r) (delete_acls_outcome w caller r)
+  pub describe : (v w : World) (caller : Caller) (r : DescribeAclsRequest) → SameBase v w
+      → SameEdit (describe_acls_outcome v caller r) (describe_acls_outcome w caller r)
+  pub create : (v w : World) (caller : Caller) (r : CreateAclsRequest) → SameBase v w
+      → SameEdit (create_acls_outcome v caller r) (create_acls_outcome w caller r)
+  pub delete : (v w : World) (caller : Caller) (r : DeleteAclsRequest) → SameBase v w
+      → SameEdit (delete_acls_outcome v caller r) (delete_acls_outcome w caller r)
 
 -- no log is touched
 pub record AclsKeepTopics : Type 0 where
-  pub create : (w : World) (caller : Caller) (r : CreateAclsRequest) → (create_acls_outcome w caller r).world.topics ≡ w.topics
-  pub delete : (w : World) (caller : Caller) (r : DeleteAclsRequest) → (delete_acls_outcome w caller r).world.topics ≡ w.topics
+  pub create : (w : World) (caller : Caller) (r : CreateAclsRequest)
+      → (create_acls_outcome w caller r).world.topics ≡ w.topics
+  pub delete : (w : World) (caller : Caller) (r : DeleteAclsRequest)
+      → (delete_acls_outcome w caller r).world.topics ≡ w.topics

@@ -1,4 +1,5 @@
--- What a refused part is told beside its error: nothing (Kafka protocol guide: -1 stands for no number).
+-- What a refused part is told beside its error: nothing (Kafka protocol guide: -1 stands for no
+-- number).
 use Rattle.std.specs.Prelude.{◌≡◌, ℕ, ℤ, pos, negsuc, false, List, [], map, Option, Some, None}
 use Rattle.acl_binding.specs.declared.question.Caller.{Caller}
 use Rattle.acl_binding.specs.declared.words.Kind.{Kind}
@@ -54,13 +55,23 @@ refusal_error kinds.TransactionalId = codes.TransactionalIdAuthorizationFailed
 -- ---- a refused part: no offset, no records, no partitions and no metadata
 
 abbrev pub bare_produced : ErrorCode → ProducedRecords → ProducedOffset
-bare_produced error p = record { index = p.index; error = error; base_offset = negsuc 0; log_append_time = negsuc 0 }
+bare_produced error p =
+    record { index = p.index; error = error; base_offset = negsuc 0; log_append_time = negsuc 0 }
 
 abbrev pub bare_fetched : ErrorCode → FetchPartition → FetchedRecords
-bare_fetched error p = record { index = p.index; error = error; high_watermark = negsuc 0; last_stable_offset = negsuc 0; aborted = None; records = [] }
+bare_fetched error p =
+    record {
+      index = p.index;
+      error = error;
+      high_watermark = negsuc 0;
+      last_stable_offset = negsuc 0;
+      aborted = None;
+      records = [];
+    }
 
 abbrev pub bare_listed : ErrorCode → WantedOffset → FoundOffset
-bare_listed error p = record { index = p.index; error = error; timestamp = negsuc 0; offset = negsuc 0 }
+bare_listed error p =
+    record { index = p.index; error = error; timestamp = negsuc 0; offset = negsuc 0 }
 
 abbrev pub bare_info : ErrorCode → List ℕ → TopicInfo
 bare_info error name = record { error = error; name = name; internal = false; partitions = [] }
@@ -69,7 +80,14 @@ abbrev pub bare_committed : ErrorCode → OffsetToCommit → CommittedOffset
 bare_committed error p = record { index = p.index; error = error }
 
 abbrev pub bare_offset : ErrorCode → ℤ → FetchedOffset
-bare_offset error index = record { index = index; offset = negsuc 0; leader_epoch = negsuc 0; metadata = Some []; error = error }
+bare_offset error index =
+    record {
+      index = index;
+      offset = negsuc 0;
+      leader_epoch = negsuc 0;
+      metadata = Some [];
+      error = error;
+    }
 
 abbrev pub bare_added : ErrorCode → ℤ → AddedPartition
 bare_added error index = record { index = index; error = error }
@@ -86,7 +104,9 @@ bare_ended error (versions.Version1 r) = told.Version1 (record { throttle = pos 
 bare_ended error (versions.Version2 r) = told.Version2 (record { throttle = pos 0; error = error })
 bare_ended error (versions.Version3 r) = told.Version3 (record { throttle = pos 0; error = error })
 bare_ended error (versions.Version4 r) = told.Version4 (record { throttle = pos 0; error = error })
-bare_ended error (versions.Version5 r) = told.Version5 (record { throttle = pos 0; error = error; producer = negsuc 0; epoch = negsuc 0 })
+bare_ended error (versions.Version5 r) =
+    told.Version5
+    (record { throttle = pos 0; error = error; producer = negsuc 0; epoch = negsuc 0 })
 
 abbrev pub bare_created : ErrorCode → BindingEntry → CreatedAcl
 bare_created error e = record { error = error; message = None }
@@ -95,18 +115,48 @@ abbrev pub bare_deleted : ErrorCode → FilterEntry → DeletedAcls
 bare_deleted error e = record { error = error; message = None; matches = [] }
 
 abbrev pub bare_reply : ErrorCode → Request → Reply
-bare_reply error (requests.OffsetFetch r) = replies.OffsetFetch (record { throttle = pos 0; topics = []; error = error })
-bare_reply error (requests.FindCoordinator r) = replies.FindCoordinator (record { throttle = pos 0; error = error; message = None; node = negsuc 0; host = []; port = negsuc 0 })
-bare_reply error (requests.JoinGroup r) = replies.JoinGroup (record { throttle = pos 0; error = error; generation = negsuc 0; protocol = []; leader = []; member = r.member; members = [] })
-bare_reply error (requests.Heartbeat r) = replies.Heartbeat (record { throttle = pos 0; error = error })
-bare_reply error (requests.LeaveGroup r) = replies.LeaveGroup (record { throttle = pos 0; error = error })
-bare_reply error (requests.SyncGroup r) = replies.SyncGroup (record { throttle = pos 0; error = error; assignment = [] })
-bare_reply error (requests.InitProducerId r) = replies.InitProducerId (record { throttle = pos 0; error = error; producer = negsuc 0; epoch = negsuc 0 })
-bare_reply error (requests.AddOffsetsToTxn r) = replies.AddOffsetsToTxn (record { throttle = pos 0; error = error })
+bare_reply error (requests.OffsetFetch r) =
+    replies.OffsetFetch (record { throttle = pos 0; topics = []; error = error })
+bare_reply error (requests.FindCoordinator r) =
+    replies.FindCoordinator
+    (record {
+      throttle = pos 0;
+      error = error;
+      message = None;
+      node = negsuc 0;
+      host = [];
+      port = negsuc 0;
+    })
+bare_reply error (requests.JoinGroup r) =
+    replies.JoinGroup
+    (record {
+      throttle = pos 0;
+      error = error;
+      generation = negsuc 0;
+      protocol = [];
+      leader = [];
+      member = r.member;
+      members = [];
+    })
+bare_reply error (requests.Heartbeat r) =
+    replies.Heartbeat (record { throttle = pos 0; error = error })
+bare_reply error (requests.LeaveGroup r) =
+    replies.LeaveGroup (record { throttle = pos 0; error = error })
+bare_reply error (requests.SyncGroup r) =
+    replies.SyncGroup (record { throttle = pos 0; error = error; assignment = [] })
+bare_reply error (requests.InitProducerId r) =
+    replies.InitProducerId
+    (record { throttle = pos 0; error = error; producer = negsuc 0; epoch = negsuc 0 })
+bare_reply error (requests.AddOffsetsToTxn r) =
+    replies.AddOffsetsToTxn (record { throttle = pos 0; error = error })
 bare_reply error (requests.EndTxn r) = replies.EndTxn (bare_ended error r)
-bare_reply error (requests.DescribeAcls r) = replies.DescribeAcls (record { throttle = pos 0; error = error; message = None; resources = [] })
-bare_reply error (requests.CreateAcls r) = replies.CreateAcls (record { throttle = pos 0; results = map (bare_created error) r.creations })
-bare_reply error (requests.DeleteAcls r) = replies.DeleteAcls (record { throttle = pos 0; results = map (bare_deleted error) r.filters })
+bare_reply error (requests.DescribeAcls r) =
+    replies.DescribeAcls
+    (record { throttle = pos 0; error = error; message = None; resources = [] })
+bare_reply error (requests.CreateAcls r) =
+    replies.CreateAcls (record { throttle = pos 0; results = map (bare_created error) r.creations })
+bare_reply error (requests.DeleteAcls r) =
+    replies.DeleteAcls (record { throttle = pos 0; results = map (bare_deleted error) r.filters })
 -- no other is
 bare_reply error request = replies.Idle
 
@@ -152,19 +202,48 @@ part_at None j = None
 part_at (Some t) j = element_at t.partitions j
 
 -- each partition of these topics that is refused is answered so, at its place in those
-abbrev pub RefusesBarely : {P A : Type 0} → World → Caller → (List ℕ → List Row) → (ErrorCode → P → A) → List (Topic P) → List (Topic A) → Type 0
-RefusesBarely {P} w caller rows bare ts answered = (i j : ℕ) (t : Topic P) (p : P) (x : Row) → element_at ts i ≡ Some t → element_at t.partitions j ≡ Some p → first_refused w caller (rows t.name) ≡ Some x → part_at (element_at answered i) j ≡ Some (bare (refusal_error x.kind) p)
+abbrev pub RefusesBarely : {P A : Type 0} → World → Caller → (List ℕ → List Row)
+    → (ErrorCode → P → A) → List (Topic P) → List (Topic A) → Type 0
+RefusesBarely {P} w caller rows bare ts answered =
+    (i j : ℕ) (t : Topic P) (p : P) (x : Row) → element_at ts i ≡ Some t
+    → element_at t.partitions j ≡ Some p → first_refused w caller (rows t.name) ≡ Some x
+    → part_at (element_at answered i) j ≡ Some (bare (refusal_error x.kind) p)
 
--- a request that is refused itself, and each refused part at its place, is answered as above, whatever there is
+-- a request that is refused itself, and each refused part at its place, is answered as above,
+-- whatever there is
 pub record RefusalsTellNothing : Type 0 where
-  pub itself : (w : World) (caller : Caller) (client : Option (List ℕ)) (request : Request) (x : Row) → first_refused w caller (request_rows w caller request) ≡ Some x → reply_to w (Ask caller client request) ≡ bare_reply (refusal_error x.kind) request
-  pub produce : (w : World) (caller : Caller) (client : Option (List ℕ)) (r : ProduceRequest) → RefusesBarely w caller (topic_rows (requests.Produce r)) bare_produced r.topics (produced_in (reply_to w (Ask caller client (requests.Produce r))))
-  pub fetch : (w : World) (caller : Caller) (client : Option (List ℕ)) (r : FetchRequest) → RefusesBarely w caller (topic_rows (requests.Fetch r)) bare_fetched r.topics (fetched_in (reply_to w (Ask caller client (requests.Fetch r))))
-  pub list : (w : World) (caller : Caller) (client : Option (List ℕ)) (r : ListOffsetsRequest) → RefusesBarely w caller (topic_rows (requests.ListOffsets r)) bare_listed r.topics (listed_in (reply_to w (Ask caller client (requests.ListOffsets r))))
-  pub metadata : (w : World) (caller : Caller) (client : Option (List ℕ)) (r : MetadataRequest) (names : List (List ℕ)) (i : ℕ) (name : List ℕ) (x : Row) → r.topics ≡ Some names → element_at names i ≡ Some name → first_refused w caller (topic_rows (requests.Metadata r) name) ≡ Some x
-      → element_at (infos_in (reply_to w (Ask caller client (requests.Metadata r)))) i ≡ Some (bare_info (refusal_error x.kind) name)
-  pub commit : (w : World) (caller : Caller) (client : Option (List ℕ)) (r : OffsetCommitRequest) → RefusesBarely w caller (topic_rows (requests.OffsetCommit r)) bare_committed r.topics (committed_in (reply_to w (Ask caller client (requests.OffsetCommit r))))
-  pub offsets : (w : World) (caller : Caller) (client : Option (List ℕ)) (r : OffsetFetchRequest) (ts : List (Topic ℤ)) → r.topics ≡ Some ts → first_refused w caller (request_rows w caller (requests.OffsetFetch r)) ≡ None
-      → RefusesBarely w caller (topic_rows (requests.OffsetFetch r)) bare_offset ts (offsets_in (reply_to w (Ask caller client (requests.OffsetFetch r))))
-  pub adds : (w : World) (caller : Caller) (client : Option (List ℕ)) (r : AddPartitionsToTxnRequest) → RefusesBarely w caller (topic_rows (requests.AddPartitionsToTxn r)) bare_added r.topics (added_in (reply_to w (Ask caller client (requests.AddPartitionsToTxn r))))
-  pub stages : (w : World) (caller : Caller) (client : Option (List ℕ)) (r : TxnOffsetCommitRequest) → RefusesBarely w caller (topic_rows (requests.TxnOffsetCommit r)) bare_staged r.topics (staged_in (reply_to w (Ask caller client (requests.TxnOffsetCommit r))))
+  pub itself : (w : World) (caller : Caller) (client : Option (List ℕ)) (request : Request)
+      (x : Row)
+      → first_refused w caller (request_rows w caller request) ≡ Some x
+      → reply_to w (Ask caller client request) ≡ bare_reply (refusal_error x.kind) request
+  pub produce : (w : World) (caller : Caller) (client : Option (List ℕ)) (r : ProduceRequest)
+      → RefusesBarely w caller (topic_rows (requests.Produce r)) bare_produced r.topics
+      (produced_in (reply_to w (Ask caller client (requests.Produce r))))
+  pub fetch : (w : World) (caller : Caller) (client : Option (List ℕ)) (r : FetchRequest)
+      → RefusesBarely w caller (topic_rows (requests.Fetch r)) bare_fetched r.topics
+      (fetched_in (reply_to w (Ask caller client (requests.Fetch r))))
+  pub list : (w : World) (caller : Caller) (client : Option (List ℕ)) (r : ListOffsetsRequest)
+      → RefusesBarely w caller (topic_rows (requests.ListOffsets r)) bare_listed r.topics
+      (listed_in (reply_to w (Ask caller client (requests.ListOffsets r))))
+  pub metadata : (w : World) (caller : Caller) (client : Option (List ℕ)) (r : MetadataRequest)
+      (names : List (List ℕ)) (i : ℕ) (name : List ℕ) (x : Row)
+      → r.topics ≡ Some names → element_at names i ≡ Some name
+      → first_refused w caller (topic_rows (requests.Metadata r) name) ≡ Some x
+      → element_at (infos_in (reply_to w (Ask caller client (requests.Metadata r)))) i
+      ≡ Some (bare_info (refusal_error x.kind) name)
+  pub commit : (w : World) (caller : Caller) (client : Option (List ℕ)) (r : OffsetCommitRequest)
+      → RefusesBarely w caller (topic_rows (requests.OffsetCommit r)) bare_committed r.topics
+      (committed_in (reply_to w (Ask caller client (requests.OffsetCommit r))))
+  pub offsets : (w : World) (caller : Caller) (client : Option (List ℕ)) (r : OffsetFetchRequest)
+      (ts : List (Topic ℤ))
+      → r.topics ≡ Some ts
+      → first_refused w caller (request_rows w caller (requests.OffsetFetch r)) ≡ None
+      → RefusesBarely w caller (topic_rows (requests.OffsetFetch r)) bare_offset ts
+      (offsets_in (reply_to w (Ask caller client (requests.OffsetFetch r))))
+  pub adds : (w : World) (caller : Caller) (client : Option (List ℕ))
+      (r : AddPartitionsToTxnRequest)
+      → RefusesBarely w caller (topic_rows (requests.AddPartitionsToTxn r)) bare_added r.topics
+      (added_in (reply_to w (Ask caller client (requests.AddPartitionsToTxn r))))
+  pub stages : (w : World) (caller : Caller) (client : Option (List ℕ)) (r : TxnOffsetCommitRequest)
+      → RefusesBarely w caller (topic_rows (requests.TxnOffsetCommit r)) bare_staged r.topics
+      (staged_in (reply_to w (Ask caller client (requests.TxnOffsetCommit r))))

@@ -11,20 +11,29 @@ use Rattle.broker_world.specs.First.{non_negative, first_world}
 use Rattle.broker_world.specs.Logs.{log_at}
 use Rattle.api_dispatch.specs.Step.{world_after_events}
 
--- it has at most so many bytes; the check of what producers send finds no fault in it; and it is the batch of its bytes, as
--- long as its offset is a number of 64 bits
+-- it has at most so many bytes; the check of what producers send finds no fault in it; and it is
+-- the batch of its bytes, as long as its offset is a number of 64 bits
 pub record IsChecked (most : ℤ) (b : BatchData) : Type 0 where
   pub small : pos (length b.bytes) ≤ℤ most
   pub faultless : first_fault (non_negative most) b.bytes ≡ None
   pub batch : FitsSigned w64 b.header.base_offset → IsBatch b
 
--- whatever the events were, each batch that stands in a log and is no marker is checked, by the settings' greatest size
+-- whatever the events were, each batch that stands in a log and is no marker is checked, by the
+-- settings' greatest size
 abbrev pub LogsHoldCheckedBatches : Type 0
-LogsHoldCheckedBatches = (s : Settings) (es : List Event) (name : List ℕ) (index : ℤ) (log before after : LogValue) (b : BatchData) → log_at (world_after_events (first_world s) es).topics name index ≡ Some log → log ≡ before ++ b ∷ after → b.marker ≡ None
+LogsHoldCheckedBatches =
+    (s : Settings) (es : List Event) (name : List ℕ) (index : ℤ) (log before after : LogValue)
+    (b : BatchData)
+    → log_at (world_after_events (first_world s) es).topics name index ≡ Some log
+    → log ≡ before ++ b ∷ after → b.marker ≡ None
     → IsChecked s.max_batch b
 
--- Each record has an offset of its own, without a gap: that of a batch or marker, which counts as one, is the number of records
--- that stand before it in the log.
+-- Each record has an offset of its own, without a gap: that of a batch or marker, which counts as
+-- one, is the number of records that stand before it in the log.
 abbrev pub OffsetsCountRecords : Type 0
-OffsetsCountRecords = (s : Settings) (es : List Event) (name : List ℕ) (index : ℤ) (log before after : LogValue) (b : BatchData) → log_at (world_after_events (first_world s) es).topics name index ≡ Some log → log ≡ before ++ b ∷ after
+OffsetsCountRecords =
+    (s : Settings) (es : List Event) (name : List ℕ) (index : ℤ) (log before after : LogValue)
+    (b : BatchData)
+    → log_at (world_after_events (first_world s) es).topics name index ≡ Some log
+    → log ≡ before ++ b ∷ after
     → b.header.base_offset ≡ pos (records_in before)

@@ -1,4 +1,5 @@
--- What a Produce, a Fetch and a ListOffsets do with one partition that is allowed, in the subject's words.
+-- What a Produce, a Fetch and a ListOffsets do with one partition that is allowed, in the subject's
+-- words.
 use Rattle.std.specs.Prelude.{◌≡◌, ◌≤◌, ◌⊎◌, ℕ, ℤ, pos, negsuc, int_le, Bool, true, false, List, [], ◌∷◌, ◌++◌, length, Option, Some, None, Ok}
 use Rattle.std.specs.List.{AllByRecursion}
 use Rattle.wire_types.specs.declared.error_code.ErrorCode.TheVariants as codes
@@ -28,8 +29,10 @@ use Rattle.data_handlers.specs.ListOffsets.{listed_offset}
 
 -- ---- Produce
 
--- the partition's log goes on by the batch that was sent, which stands at the offset that is answered
-pub record IsAppended (topics after : List TopicValue) (name : List ℕ) (p : ProducedRecords) (answer : ProducedOffset) : Type 0 where
+-- the partition's log goes on by the batch that was sent, which stands at the offset that is
+-- answered
+pub record IsAppended (topics after : List TopicValue) (name : List ℕ) (p : ProducedRecords)
+    (answer : ProducedOffset) : Type 0 where
   pub log : LogValue
   pub batch : BatchData
   pub there : log_at topics name p.index ≡ Some log
@@ -39,8 +42,10 @@ pub record IsAppended (topics after : List TopicValue) (name : List ℕ) (p : Pr
   pub offset : answer.base_offset ≡ end_of log
   pub goes_on : log_at after name p.index ≡ Some (log ++ at_end log batch ∷ [])
 
--- the batch was sent before: the offset that is answered is the one at which it stands, and nothing is changed
-pub record IsRepeated (topics after : List TopicValue) (name : List ℕ) (p : ProducedRecords) (answer : ProducedOffset) : Type 0 where
+-- the batch was sent before: the offset that is answered is the one at which it stands, and nothing
+-- is changed
+pub record IsRepeated (topics after : List TopicValue) (name : List ℕ) (p : ProducedRecords)
+    (answer : ProducedOffset) : Type 0 where
   pub log : LogValue
   pub batch : BatchData
   pub there : log_at topics name p.index ≡ Some log
@@ -49,7 +54,8 @@ pub record IsRepeated (topics after : List TopicValue) (name : List ℕ) (p : Pr
   pub same : after ≡ topics
 
 -- no error and this offset is answered, and nothing is changed
-pub record IsAgain (topics after : List TopicValue) (offset : ℤ) (answer : ProducedOffset) : Type 0 where
+pub record IsAgain (topics after : List TopicValue) (offset : ℤ) (answer : ProducedOffset)
+    : Type 0 where
   pub error : answer.error ≡ codes.None
   pub at : answer.base_offset ≡ offset
   pub same : after ≡ topics
@@ -59,23 +65,65 @@ pub record IsUnchanged (topics after : List TopicValue) (answer : ProducedOffset
   pub same : after ≡ topics
   pub offset : answer.base_offset ≡ negsuc 0
 
--- A partition is answered no error exactly where its batch was appended, now or before; and of a batch that passes the
--- other checks the log decides: one that is next is appended, and a repeat is answered the offset at which it stands.
+-- A partition is answered no error exactly where its batch was appended, now or before; and of a
+-- batch that passes the other checks the log decides: one that is next is appended, and a repeat is
+-- answered the offset at which it stands.
 pub record ProducesAsAnswered : Type 0 where
-  pub appends : (most : ℕ) (c : CoordinatorValue) (id : Option (List ℕ)) (acks : ℤ) (topics : List TopicValue) (name : List ℕ) (p : ProducedRecords)
-      → (produce_answer (batch_to_append most c id acks (partition_at name p.index) p.records) topics name p).error ≡ codes.None
-      → IsAppended topics (topics_produced (batch_to_append most c id acks (partition_at name p.index) p.records) topics name p.index) name p (produce_answer (batch_to_append most c id acks (partition_at name p.index) p.records) topics name p)
-      ⊎ IsRepeated topics (topics_produced (batch_to_append most c id acks (partition_at name p.index) p.records) topics name p.index) name p (produce_answer (batch_to_append most c id acks (partition_at name p.index) p.records) topics name p)
-  pub refuses : (most : ℕ) (c : CoordinatorValue) (id : Option (List ℕ)) (acks : ℤ) (topics : List TopicValue) (name : List ℕ) (p : ProducedRecords)
-      → ((produce_answer (batch_to_append most c id acks (partition_at name p.index) p.records) topics name p).error ≡ codes.None → ⊥)
-      → IsUnchanged topics (topics_produced (batch_to_append most c id acks (partition_at name p.index) p.records) topics name p.index) (produce_answer (batch_to_append most c id acks (partition_at name p.index) p.records) topics name p)
-  pub next : (most : ℕ) (c : CoordinatorValue) (id : Option (List ℕ)) (acks : ℤ) (topics : List TopicValue) (name : List ℕ) (p : ProducedRecords) (log : LogValue) (batch : BatchData)
-      → log_at topics name p.index ≡ Some log → batch_to_append most c id acks (partition_at name p.index) p.records ≡ Ok batch → judged_by_log log batch ≡ Next
-      → ((produce_answer (batch_to_append most c id acks (partition_at name p.index) p.records) topics name p).error ≡ codes.None)
-      × IsAppended topics (topics_produced (batch_to_append most c id acks (partition_at name p.index) p.records) topics name p.index) name p (produce_answer (batch_to_append most c id acks (partition_at name p.index) p.records) topics name p)
-  pub repeat : (most : ℕ) (c : CoordinatorValue) (id : Option (List ℕ)) (acks : ℤ) (topics : List TopicValue) (name : List ℕ) (p : ProducedRecords) (log : LogValue) (batch : BatchData) (offset : ℤ)
-      → log_at topics name p.index ≡ Some log → batch_to_append most c id acks (partition_at name p.index) p.records ≡ Ok batch → judged_by_log log batch ≡ Repeat offset
-      → IsAgain topics (topics_produced (batch_to_append most c id acks (partition_at name p.index) p.records) topics name p.index) offset (produce_answer (batch_to_append most c id acks (partition_at name p.index) p.records) topics name p)
+  pub appends : (most : ℕ) (c : CoordinatorValue) (id : Option (List ℕ)) (acks : ℤ)
+      (topics : List TopicValue) (name : List ℕ) (p : ProducedRecords)
+      → (produce_answer (batch_to_append most c id acks (partition_at name p.index) p.records)
+      topics name p).error
+      ≡ codes.None
+      → IsAppended topics
+      (topics_produced (batch_to_append most c id acks (partition_at name p.index) p.records)
+      topics name p.index)
+      name p
+      (produce_answer (batch_to_append most c id acks (partition_at name p.index) p.records)
+      topics name p)
+      ⊎ IsRepeated topics
+      (topics_produced (batch_to_append most c id acks (partition_at name p.index) p.records)
+      topics name p.index)
+      name p
+      (produce_answer (batch_to_append most c id acks (partition_at name p.index) p.records)
+      topics name p)
+  pub refuses : (most : ℕ) (c : CoordinatorValue) (id : Option (List ℕ)) (acks : ℤ)
+      (topics : List TopicValue) (name : List ℕ) (p : ProducedRecords)
+      → ((produce_answer (batch_to_append most c id acks (partition_at name p.index) p.records)
+      topics name p).error
+      ≡ codes.None
+      → ⊥)
+      → IsUnchanged topics
+      (topics_produced (batch_to_append most c id acks (partition_at name p.index) p.records)
+      topics name p.index)
+      (produce_answer (batch_to_append most c id acks (partition_at name p.index) p.records)
+      topics name p)
+  pub next : (most : ℕ) (c : CoordinatorValue) (id : Option (List ℕ)) (acks : ℤ)
+      (topics : List TopicValue) (name : List ℕ) (p : ProducedRecords) (log : LogValue)
+      (batch : BatchData)
+      → log_at topics name p.index ≡ Some log
+      → batch_to_append most c id acks (partition_at name p.index) p.records ≡ Ok batch
+      → judged_by_log log batch ≡ Next
+      → ((produce_answer (batch_to_append most c id acks (partition_at name p.index) p.records)
+      topics name p).error
+      ≡ codes.None)
+      × IsAppended topics
+      (topics_produced (batch_to_append most c id acks (partition_at name p.index) p.records)
+      topics name p.index)
+      name p
+      (produce_answer (batch_to_append most c id acks (partition_at name p.index) p.records)
+      topics name p)
+  pub repeat : (most : ℕ) (c : CoordinatorValue) (id : Option (List ℕ)) (acks : ℤ)
+      (topics : List TopicValue) (name : List ℕ) (p : ProducedRecords) (log : LogValue)
+      (batch : BatchData) (offset : ℤ)
+      → log_at topics name p.index ≡ Some log
+      → batch_to_append most c id acks (partition_at name p.index) p.records ≡ Ok batch
+      → judged_by_log log batch ≡ Repeat offset
+      → IsAgain topics
+      (topics_produced (batch_to_append most c id acks (partition_at name p.index) p.records)
+      topics name p.index)
+      offset
+      (produce_answer (batch_to_append most c id acks (partition_at name p.index) p.records)
+      topics name p)
 
 -- ---- ListOffsets
 
@@ -93,28 +141,44 @@ pub record IsListed (offset : ℤ) (p : WantedOffset) (answer : FoundOffset) : T
   pub timestamp : answer.timestamp ≡ negsuc 0
   pub at : answer.offset ≡ offset
 
--- of a partition that is there: for -1 the end of the log, or for read_committed the last stable offset, the start for -2, and for
--- any other timestamp the code 42; of one that isn't there the code 3, whatever is wanted
+-- of a partition that is there: for -1 the end of the log, or for read_committed the last stable
+-- offset, the start for -2, and for any other timestamp the code 42; of one that isn't there the
+-- code 3, whatever is wanted
 pub record ListsEnds : Type 0 where
-  pub uncommitted : (topics : List TopicValue) (name : List ℕ) (p : WantedOffset) (log : LogValue) → log_at topics name p.index ≡ Some log → p.timestamp ≡ negsuc 0 → IsListed (end_of log) p (listed_offset ReadUncommitted topics name p)
-  pub committed : (topics : List TopicValue) (name : List ℕ) (p : WantedOffset) (log : LogValue) → log_at topics name p.index ≡ Some log → p.timestamp ≡ negsuc 0 → IsListed (last_stable_offset log) p (listed_offset ReadCommitted topics name p)
-  pub start : (level : Isolation) (topics : List TopicValue) (name : List ℕ) (p : WantedOffset) (log : LogValue) → log_at topics name p.index ≡ Some log → p.timestamp ≡ negsuc 1 → IsListed (pos 0) p (listed_offset level topics name p)
-  pub other : (level : Isolation) (topics : List TopicValue) (name : List ℕ) (p : WantedOffset) (log : LogValue) → log_at topics name p.index ≡ Some log → int_eq p.timestamp (negsuc 0) ≡ false → int_eq p.timestamp (negsuc 1) ≡ false → IsUnlisted 42 p (listed_offset level topics name p)
-  pub missing : (level : Isolation) (topics : List TopicValue) (name : List ℕ) (p : WantedOffset) → log_at topics name p.index ≡ None → IsUnlisted 3 p (listed_offset level topics name p)
+  pub uncommitted : (topics : List TopicValue) (name : List ℕ) (p : WantedOffset) (log : LogValue)
+      → log_at topics name p.index ≡ Some log → p.timestamp ≡ negsuc 0
+      → IsListed (end_of log) p (listed_offset ReadUncommitted topics name p)
+  pub committed : (topics : List TopicValue) (name : List ℕ) (p : WantedOffset) (log : LogValue)
+      → log_at topics name p.index ≡ Some log → p.timestamp ≡ negsuc 0
+      → IsListed (last_stable_offset log) p (listed_offset ReadCommitted topics name p)
+  pub start : (level : Isolation) (topics : List TopicValue) (name : List ℕ) (p : WantedOffset)
+      (log : LogValue)
+      → log_at topics name p.index ≡ Some log → p.timestamp ≡ negsuc 1
+      → IsListed (pos 0) p (listed_offset level topics name p)
+  pub other : (level : Isolation) (topics : List TopicValue) (name : List ℕ) (p : WantedOffset)
+      (log : LogValue)
+      → log_at topics name p.index ≡ Some log → int_eq p.timestamp (negsuc 0) ≡ false
+      → int_eq p.timestamp (negsuc 1) ≡ false → IsUnlisted 42 p (listed_offset level topics name p)
+  pub missing : (level : Isolation) (topics : List TopicValue) (name : List ℕ) (p : WantedOffset)
+      → log_at topics name p.index ≡ None → IsUnlisted 3 p (listed_offset level topics name p)
 
 -- ---- Fetch
 
--- The batches that are served of a log follow one another in it, from the one on that holds the offset. They fit into
--- the budget, or it is one batch alone where none of the answer was given one before.
-pub record IsServed (log : LogValue) (offset : ℤ) (budget : ℕ) (given : Bool) (batches : List BatchData) : Type 0 where
+-- The batches that are served of a log follow one another in it, from the one on that holds the
+-- offset. They fit into the budget, or it is one batch alone where none of the answer was given one
+-- before.
+pub record IsServed (log : LogValue) (offset : ℤ) (budget : ℕ) (given : Bool)
+    (batches : List BatchData) : Type 0 where
   pub before : List BatchData
   pub after : List BatchData
   pub in_order : log ≡ before ++ (batches ++ after)
   pub from : AllByRecursion (λ (b : BatchData). int_le (next_offset b) offset ≡ true) before
   pub small : (total_bytes batches ≤ budget) ⊎ ((given ≡ false) × (length batches ≡ 1))
 
--- the answer tells these batches, and where the log ends; read_uncommitted is told no list of aborted transactions
-pub record IsFetched (level : Isolation) (log : LogValue) (budget : FetchBudget) (p : FetchPartition) (answer : FetchedRecords) (next : FetchBudget) : Type 0 where
+-- the answer tells these batches, and where the log ends; read_uncommitted is told no list of
+-- aborted transactions
+pub record IsFetched (level : Isolation) (log : LogValue) (budget : FetchBudget)
+    (p : FetchPartition) (answer : FetchedRecords) (next : FetchBudget) : Type 0 where
   pub batches : List BatchData
   pub served : IsServed log p.offset (budget_for budget p) budget.given batches
   pub index : answer.index ≡ p.index
@@ -127,7 +191,8 @@ pub record IsFetched (level : Isolation) (log : LogValue) (budget : FetchBudget)
   pub left : next ≡ budget_after_batches budget batches
 
 -- no batch, no list, no offset, and the budget is as it was
-pub record IsUnserved (budget : FetchBudget) (p : FetchPartition) (answer : FetchedRecords) (next : FetchBudget) : Type 0 where
+pub record IsUnserved (budget : FetchBudget) (p : FetchPartition) (answer : FetchedRecords)
+    (next : FetchBudget) : Type 0 where
   pub index : answer.index ≡ p.index
   pub records : answer.records ≡ []
   pub aborted : answer.aborted ≡ None
@@ -137,9 +202,23 @@ pub record IsUnserved (budget : FetchBudget) (p : FetchPartition) (answer : Fetc
 
 -- an offset within the log is served, and one outside it or of a partition that isn't there is not
 pub record FetchesRuns : Type 0 where
-  pub within : (level : Isolation) (topics : List TopicValue) (budget : FetchBudget) (name : List ℕ) (p : FetchPartition) (log : LogValue) → log_at topics name p.index ≡ Some log → is_outside log p.offset ≡ false
-      → IsFetched level log budget p (fetched_partition level p (served_at level topics budget name p)) (budget_after budget (served_at level topics budget name p))
-  pub outside : (level : Isolation) (topics : List TopicValue) (budget : FetchBudget) (name : List ℕ) (p : FetchPartition) (log : LogValue) → log_at topics name p.index ≡ Some log → is_outside log p.offset ≡ true
-      → ((fetched_partition level p (served_at level topics budget name p)).error ≡ codes.OffsetOutOfRange) × IsUnserved budget p (fetched_partition level p (served_at level topics budget name p)) (budget_after budget (served_at level topics budget name p))
-  pub missing : (level : Isolation) (topics : List TopicValue) (budget : FetchBudget) (name : List ℕ) (p : FetchPartition) → log_at topics name p.index ≡ None
-      → ((fetched_partition level p (served_at level topics budget name p)).error ≡ codes.UnknownTopicOrPartition) × IsUnserved budget p (fetched_partition level p (served_at level topics budget name p)) (budget_after budget (served_at level topics budget name p))
+  pub within : (level : Isolation) (topics : List TopicValue) (budget : FetchBudget) (name : List ℕ)
+      (p : FetchPartition) (log : LogValue)
+      → log_at topics name p.index ≡ Some log → is_outside log p.offset ≡ false
+      → IsFetched level log budget p
+      (fetched_partition level p (served_at level topics budget name p))
+      (budget_after budget (served_at level topics budget name p))
+  pub outside : (level : Isolation) (topics : List TopicValue) (budget : FetchBudget)
+      (name : List ℕ) (p : FetchPartition) (log : LogValue)
+      → log_at topics name p.index ≡ Some log → is_outside log p.offset ≡ true
+      → ((fetched_partition level p (served_at level topics budget name p)).error
+      ≡ codes.OffsetOutOfRange)
+      × IsUnserved budget p (fetched_partition level p (served_at level topics budget name p))
+      (budget_after budget (served_at level topics budget name p))
+  pub missing : (level : Isolation) (topics : List TopicValue) (budget : FetchBudget)
+      (name : List ℕ) (p : FetchPartition)
+      → log_at topics name p.index ≡ None
+      → ((fetched_partition level p (served_at level topics budget name p)).error
+      ≡ codes.UnknownTopicOrPartition)
+      × IsUnserved budget p (fetched_partition level p (served_at level topics budget name p))
+      (budget_after budget (served_at level topics budget name p))

@@ -1,5 +1,5 @@
--- What the answers to Produce, Fetch and ListOffsets depend on: beside the book and the numbers, only what the questions
--- of their parts were granted.
+-- What the answers to Produce, Fetch and ListOffsets depend on: beside the book and the numbers,
+-- only what the questions of their parts were granted.
 use Rattle.std.specs.Prelude.{◌≡◌, ℕ, ℤ, List, Option, None}
 use Rattle.acl_binding.specs.declared.question.Caller.{Caller}
 use Rattle.authorizer.specs.Asking.{Rules, part_refusal}
@@ -19,7 +19,8 @@ use Rattle.data_handlers.specs.ListOffsets.{list_rule, list_offsets_outcome}
 use Rattle.api_laws.specs.Tenants.{SameBase, SameGranted}
 
 -- the worlds agree on what each question of a part is about that is granted
-abbrev pub SameForParts : {P A W : Type 0} → World → World → PartRule P A W → List (Topic P) → Type 0
+abbrev pub SameForParts : {P A W : Type 0} → World → World → PartRule P A W → List (Topic P)
+    → Type 0
 SameForParts v w api ts = AllTopics (λ name p. SameGranted v w (api.questions name p)) ts
 
 -- the same reply and the same refusals
@@ -29,25 +30,40 @@ pub record SameAnswer (a b : HandlerResult) : Type 0 where
 
 -- worlds that agree on what a request was granted give it the same answer
 abbrev pub FetchDependsOnGrants : Type 0
-FetchDependsOnGrants = (v w : World) (caller : Caller) (r : FetchRequest) → SameBase v w → SameForParts v w (fetch_rule caller r.isolation w.topics) r.topics → SameAnswer (fetch_outcome v caller r) (fetch_outcome w caller r)
+FetchDependsOnGrants =
+    (v w : World) (caller : Caller) (r : FetchRequest) → SameBase v w
+    → SameForParts v w (fetch_rule caller r.isolation w.topics) r.topics
+    → SameAnswer (fetch_outcome v caller r) (fetch_outcome w caller r)
 
 abbrev pub ListOffsetsDependsOnGrants : Type 0
-ListOffsetsDependsOnGrants = (v w : World) (caller : Caller) (r : ListOffsetsRequest) → SameBase v w → SameForParts v w (list_rule caller r.isolation w.topics) r.topics
+ListOffsetsDependsOnGrants =
+    (v w : World) (caller : Caller) (r : ListOffsetsRequest) → SameBase v w
+    → SameForParts v w (list_rule caller r.isolation w.topics) r.topics
     → SameAnswer (list_offsets_outcome v caller r) (list_offsets_outcome w caller r)
 
 abbrev pub ProduceDependsOnGrants : Type 0
-ProduceDependsOnGrants = (v w : World) (caller : Caller) (r : ProduceRequest) → SameBase v w → SameForParts v w (producing_rule w caller r) r.topics → SameAnswer (produce_outcome v caller r) (produce_outcome w caller r)
+ProduceDependsOnGrants =
+    (v w : World) (caller : Caller) (r : ProduceRequest) → SameBase v w
+    → SameForParts v w (producing_rule w caller r) r.topics
+    → SameAnswer (produce_outcome v caller r) (produce_outcome w caller r)
 
 -- a topic that a Produce was not granted is as before
 abbrev pub ProduceKeepsTheRest : Type 0
-ProduceKeepsTheRest = (w : World) (caller : Caller) (r : ProduceRequest) (name : List ℕ) → (part_refusal (rules_of w) (produce_questions caller r.transactional_id name) ≡ None → ⊥)
+ProduceKeepsTheRest =
+    (w : World) (caller : Caller) (r : ProduceRequest) (name : List ℕ)
+    → (part_refusal (rules_of w) (produce_questions caller r.transactional_id name) ≡ None → ⊥)
     → find_topic (produce_outcome w caller r).world.topics name ≡ find_topic w.topics name
 
 -- a part that was granted is of another partition
-abbrev pub IsAnother : Rules → Caller → Option (List ℕ) → List ℕ → ℤ → List ℕ → ProducedRecords → Type 0
-IsAnother rules caller id name index n p = part_refusal rules (produce_questions caller id n) ≡ None → n ≡ name → p.index ≡ index → ⊥
+abbrev pub IsAnother : Rules → Caller → Option (List ℕ) → List ℕ → ℤ → List ℕ → ProducedRecords
+    → Type 0
+IsAnother rules caller id name index n p =
+    part_refusal rules (produce_questions caller id n) ≡ None → n ≡ name → p.index ≡ index → ⊥
 
--- a partition for which a Produce has no part that was granted is as before, whatever the other partitions are sent
+-- a partition for which a Produce has no part that was granted is as before, whatever the other
+-- partitions are sent
 abbrev pub ProduceKeepsOtherPartitions : Type 0
-ProduceKeepsOtherPartitions = (w : World) (caller : Caller) (r : ProduceRequest) (name : List ℕ) (index : ℤ) → AllTopics (IsAnother (rules_of w) caller r.transactional_id name index) r.topics
+ProduceKeepsOtherPartitions =
+    (w : World) (caller : Caller) (r : ProduceRequest) (name : List ℕ) (index : ℤ)
+    → AllTopics (IsAnother (rules_of w) caller r.transactional_id name index) r.topics
     → log_at (produce_outcome w caller r).world.topics name index ≡ log_at w.topics name index

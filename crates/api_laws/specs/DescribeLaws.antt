@@ -1,5 +1,5 @@
--- What a DescribeAcls tells, in the subject's words: each binding of the book that its filter picks, once, in groups by
--- kind, name and pattern.
+-- What a DescribeAcls tells, in the subject's words: each binding of the book that its filter
+-- picks, once, in groups by kind, name and pattern.
 use Rattle.std.specs.Prelude.{◌≢◌, Bool, ◌&&◌, List, [], map, flat_map, IsPermutation, Some}
 use Rattle.std.specs.Ordering.{int_eq}
 use Rattle.std.specs.List.{IsDistinct, AllByRecursion}
@@ -19,7 +19,16 @@ groups_of book f = (describe_acls_reply book (Some f)).resources
 
 -- one of a group's bindings, whole
 abbrev pub described_entry : DescribedResource → DescribedAcl → BindingEntry
-described_entry r a = record { kind = r.kind; name = r.name; pattern = r.pattern; principal = a.principal; host = a.host; operation = a.operation; permission = a.permission }
+described_entry r a =
+    record {
+      kind = r.kind;
+      name = r.name;
+      pattern = r.pattern;
+      principal = a.principal;
+      host = a.host;
+      operation = a.operation;
+      permission = a.permission;
+    }
 
 -- the bindings that are told, one group after the other
 abbrev pub described_entries : List DescribedResource → List BindingEntry
@@ -28,7 +37,9 @@ described_entries rs = flat_map (λ r. map (described_entry r) r.acls) rs
 -- equal in all seven fields
 abbrev pub same_entry : BindingEntry → BindingEntry → Bool
 same_entry a b = int_eq a.kind b.kind && (bytes_eq a.name b.name && (int_eq a.pattern b.pattern
-    && (bytes_eq a.principal b.principal && (bytes_eq a.host b.host && (int_eq a.operation b.operation && int_eq a.permission b.permission)))))
+    && (bytes_eq a.principal b.principal
+    && (bytes_eq a.host b.host
+    && (int_eq a.operation b.operation && int_eq a.permission b.permission)))))
 
 -- equal in kind, name and pattern
 abbrev pub same_group : DescribedResource → DescribedResource → Bool
@@ -36,9 +47,12 @@ same_group r s = int_eq r.kind s.kind && (int_eq r.pattern s.pattern && bytes_eq
 
 pub record DescribesEach : Type 0 where
   -- what is told is what the filter picks, each as often, in some order
-  pub each : (book : BookValue) (f : Filter) → IsPermutation (map entry_of_binding (matching_bindings book.entries f)) (described_entries (groups_of book f))
+  pub each : (book : BookValue) (f : Filter)
+      → IsPermutation (map entry_of_binding (matching_bindings book.entries f))
+      (described_entries (groups_of book f))
   -- no binding is told twice
-  pub once : (book : BookValue) (f : Filter) → IsBook book → IsDistinct same_entry (described_entries (groups_of book f))
+  pub once : (book : BookValue) (f : Filter) → IsBook book
+      → IsDistinct same_entry (described_entries (groups_of book f))
   -- no two groups have one kind, name and pattern
   pub apart : (book : BookValue) (f : Filter) → IsDistinct same_group (groups_of book f)
   -- no group is without a binding

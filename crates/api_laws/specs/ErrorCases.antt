@@ -42,8 +42,11 @@ pub record IsToldFor (key number : ℕ) : Type 0 where
   pub caller : Caller
   pub request : Request
   pub api : api_key request ≡ key
-  pub told : list_any (λ (error : ℤ). int_eq error (pos number)) (all_errors (reply_to world (Ask caller None request))) ≡ true
+  pub told : list_any (λ (error : ℤ). int_eq error (pos number))
+      (all_errors (reply_to world (Ask caller None request)))
+      ≡ true
 
 -- each number that the table lists for a request is told for one of the same api
 abbrev pub ErrorsAreAnswered : Type 0
-ErrorsAreAnswered = (request : Request) → AllByRecursion (IsToldFor (api_key request)) (errors_of request)
+ErrorsAreAnswered =
+    (request : Request) → AllByRecursion (IsToldFor (api_key request)) (errors_of request)

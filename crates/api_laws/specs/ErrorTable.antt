@@ -13,7 +13,8 @@ use Rattle.broker_world.specs.World.{World}
 use Rattle.api_dispatch.specs.Step.{reply_to}
 use Rattle.api_laws.specs.ToldErrors.{all_errors}
 
--- another epoch than the transactional id's is INVALID_PRODUCER_EPOCH, from version 2 on PRODUCER_FENCED (KIP-588)
+-- another epoch than the transactional id's is INVALID_PRODUCER_EPOCH, from version 2 on
+-- PRODUCER_FENCED (KIP-588)
 abbrev pub epoch_error : EndTxnRequest → ℕ
 epoch_error (versions.Version0 r) = 47
 epoch_error (versions.Version1 r) = 47
@@ -38,24 +39,32 @@ named_errors (Some ts) = 29 ∷ []
 
 -- of a group, of a transactional id, and of neither
 abbrev pub coordinator_errors : ℤ → List ℕ
-coordinator_errors key_type = if int_eq key_type (pos 0) then 30 ∷ [] else if int_eq key_type (pos 1) then 53 ∷ [] else 42 ∷ []
+coordinator_errors key_type =
+    if int_eq key_type (pos 0) then 30 ∷ [] else if int_eq key_type (pos 1) then 53 ∷ []
+    else 42 ∷ []
 
 abbrev pub init_errors : Option (List ℕ) → List ℕ
 init_errors None = 31 ∷ []
 init_errors (Some id) = 42 ∷ 50 ∷ 51 ∷ 53 ∷ []
 
---    1 OFFSET_OUT_OF_RANGE                  2 CORRUPT_MESSAGE                  3 UNKNOWN_TOPIC_OR_PARTITION
---   10 MESSAGE_TOO_LARGE                   21 INVALID_REQUIRED_ACKS           22 ILLEGAL_GENERATION
---   23 INCONSISTENT_GROUP_PROTOCOL         24 INVALID_GROUP_ID                25 UNKNOWN_MEMBER_ID
---   26 INVALID_SESSION_TIMEOUT             27 REBALANCE_IN_PROGRESS           29 TOPIC_AUTHORIZATION_FAILED
---   30 GROUP_AUTHORIZATION_FAILED          31 CLUSTER_AUTHORIZATION_FAILED    32 INVALID_TIMESTAMP
---   34 ILLEGAL_SASL_STATE                  42 INVALID_REQUEST                 45 OUT_OF_ORDER_SEQUENCE_NUMBER
---   47 INVALID_PRODUCER_EPOCH              48 INVALID_TXN_STATE               49 INVALID_PRODUCER_ID_MAPPING
---   50 INVALID_TRANSACTION_TIMEOUT         51 CONCURRENT_TRANSACTIONS         53 TRANSACTIONAL_ID_AUTHORIZATION_FAILED
---   55 OPERATION_NOT_ATTEMPTED             76 UNSUPPORTED_COMPRESSION_TYPE    81 GROUP_MAX_SIZE_REACHED
---   87 INVALID_RECORD                      88 UNSTABLE_OFFSET_COMMIT          90 PRODUCER_FENCED
+--    1 OFFSET_OUT_OF_RANGE                 2 CORRUPT_MESSAGE
+--    3 UNKNOWN_TOPIC_OR_PARTITION         10 MESSAGE_TOO_LARGE
+--   21 INVALID_REQUIRED_ACKS              22 ILLEGAL_GENERATION
+--   23 INCONSISTENT_GROUP_PROTOCOL        24 INVALID_GROUP_ID
+--   25 UNKNOWN_MEMBER_ID                  26 INVALID_SESSION_TIMEOUT
+--   27 REBALANCE_IN_PROGRESS              29 TOPIC_AUTHORIZATION_FAILED
+--   30 GROUP_AUTHORIZATION_FAILED         31 CLUSTER_AUTHORIZATION_FAILED
+--   32 INVALID_TIMESTAMP                  34 ILLEGAL_SASL_STATE
+--   42 INVALID_REQUEST                    45 OUT_OF_ORDER_SEQUENCE_NUMBER
+--   47 INVALID_PRODUCER_EPOCH             48 INVALID_TXN_STATE
+--   49 INVALID_PRODUCER_ID_MAPPING        50 INVALID_TRANSACTION_TIMEOUT
+--   51 CONCURRENT_TRANSACTIONS            53 TRANSACTIONAL_ID_AUTHORIZATION_FAILED
+--   55 OPERATION_NOT_ATTEMPTED            76 UNSUPPORTED_COMPRESSION_TYPE
+--   81 GROUP_MAX_SIZE_REACHED             87 INVALID_RECORD
+--   88 UNSTABLE_OFFSET_COMMIT             90 PRODUCER_FENCED
 abbrev pub errors_of : Request → List ℕ
-errors_of (requests.Produce r) = 2 ∷ 3 ∷ 10 ∷ 21 ∷ 29 ∷ 32 ∷ 45 ∷ 47 ∷ 48 ∷ 49 ∷ 76 ∷ 87 ∷ id_errors r.transactional_id
+errors_of (requests.Produce r) =
+    2 ∷ 3 ∷ 10 ∷ 21 ∷ 29 ∷ 32 ∷ 45 ∷ 47 ∷ 48 ∷ 49 ∷ 76 ∷ 87 ∷ id_errors r.transactional_id
 errors_of (requests.Fetch r) = 1 ∷ 3 ∷ 29 ∷ []
 errors_of (requests.ListOffsets r) = 3 ∷ 29 ∷ 42 ∷ []
 errors_of (requests.Metadata r) = metadata_errors r.topics
@@ -84,4 +93,7 @@ IsAmong numbers error = list_any (λ (n : ℕ). int_eq error (pos n)) (0 ∷ num
 
 -- whatever the world is and whoever asks, each error in an answer is one of its api's
 abbrev pub ErrorsByTable : Type 0
-ErrorsByTable = (w : World) (caller : Caller) (client : Option (List ℕ)) (request : Request) → AllByRecursion (IsAmong (errors_of request)) (all_errors (reply_to w (Ask caller client request)))
+ErrorsByTable =
+    (w : World) (caller : Caller) (client : Option (List ℕ)) (request : Request)
+    → AllByRecursion (IsAmong (errors_of request))
+    (all_errors (reply_to w (Ask caller client request)))

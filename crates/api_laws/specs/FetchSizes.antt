@@ -1,4 +1,5 @@
--- How much one answer of a Fetch holds (Kafka protocol guide, "Fetch API (Key: 1)": max_bytes of the request, and of a partition).
+-- How much one answer of a Fetch holds (Kafka protocol guide, "Fetch API (Key: 1)": max_bytes of
+-- the request, and of a partition).
 use Rattle.std.specs.Prelude.{◌≡◌, ◌≤◌, ◌⊎◌, ℕ, ℤ, List, [], ◌∷◌, ◌++◌, length, Some}
 use Rattle.std.specs.List.{flat_map}
 use Rattle.acl_binding.specs.declared.question.Caller.{Caller}
@@ -38,10 +39,17 @@ pub record IsOneBatch (w : World) (bytes : List ℕ) : Type 0 where
 abbrev pub IsWithin : World → ℤ → List ℕ → Type 0
 IsWithin w most bytes = (length bytes ≤ non_negative most) ⊎ IsOneBatch w bytes
 
--- Whatever is asked, and whatever of it is allowed: the batches of the whole answer have together at most the request's bytes, or
--- are one batch; and those of each partition have at most its own, or are one batch.
+-- Whatever is asked, and whatever of it is allowed: the batches of the whole answer have together
+-- at most the request's bytes, or are one batch; and those of each partition have at most its own,
+-- or are one batch.
 pub record FetchIsWithin : Type 0 where
-  pub whole : (w : World) (caller : Caller) (r : FetchRequest) (reply : FetchReply) → (fetch_outcome w caller r).reply ≡ replies.Fetch reply → IsWithin w r.max_bytes (bytes_of reply.topics)
-  pub each : (w : World) (caller : Caller) (r : FetchRequest) (reply : FetchReply) → (fetch_outcome w caller r).reply ≡ replies.Fetch reply
-      → (i j : ℕ) (t : Topic FetchPartition) (a : Topic FetchedRecords) (p : FetchPartition) (answer : FetchedRecords)
-      → element_at r.topics i ≡ Some t → element_at t.partitions j ≡ Some p → element_at reply.topics i ≡ Some a → element_at a.partitions j ≡ Some answer → IsWithin w p.max_bytes answer.records
+  pub whole : (w : World) (caller : Caller) (r : FetchRequest) (reply : FetchReply)
+      → (fetch_outcome w caller r).reply ≡ replies.Fetch reply
+      → IsWithin w r.max_bytes (bytes_of reply.topics)
+  pub each : (w : World) (caller : Caller) (r : FetchRequest) (reply : FetchReply)
+      → (fetch_outcome w caller r).reply ≡ replies.Fetch reply
+      → (i j : ℕ) (t : Topic FetchPartition) (a : Topic FetchedRecords) (p : FetchPartition)
+      (answer : FetchedRecords)
+      → element_at r.topics i ≡ Some t → element_at t.partitions j ≡ Some p
+      → element_at reply.topics i ≡ Some a → element_at a.partitions j ≡ Some answer
+      → IsWithin w p.max_bytes answer.records

@@ -1,4 +1,5 @@
--- The bytes of a response, from its front on (Kafka protocol guide, "Common Request and Response Structure").
+-- The bytes of a response, from its front on (Kafka protocol guide, "Common Request and Response
+-- Structure").
 use Rattle.std.specs.Prelude.{◌≡◌, ◌≤ℤ◌, ◌<ℤ◌, ◌<◌, ◌/◌, ◌%◌, ◌-◌, ℕ, ℤ, pos, negsuc, Bool, true, false, List, [], ◌∷◌, ◌++◌, length, Some}
 use Rattle.msg_admin.specs.declared.api.Api.{Api}
 use Rattle.msg_admin.specs.declared.reply.Reply.{Reply}
@@ -20,12 +21,17 @@ abbrev pub tags : Bool → List ℕ
 tags true = 0 ∷ []
 tags false = []
 
--- what stands after the size: the correlation id that was asked under, the empty tagged section of a flexible version, and
--- the answer's body
+-- what stands after the size: the correlation id that was asked under, the empty tagged section of
+-- a flexible version, and the answer's body
 abbrev pub after_size : ℤ → Api → Reply → List ℕ
-after_size correlation api r = four_bytes (word_of correlation) ++ (tags (is_flexible api) ++ (reply_body api).written r)
+after_size correlation api r =
+    four_bytes (word_of correlation) ++ (tags (is_flexible api) ++ (reply_body api).written r)
 
 -- the size of the rest, and the rest
 abbrev pub ResponsesAreFramed : Type 0
-ResponsesAreFramed = (correlation : ℤ) (r : Reply) (api : Api) → sent_as r ≡ Some api → negsuc 2147483647 ≤ℤ correlation → correlation <ℤ pos 2147483648 → length (after_size correlation api r) < 2147483648
-    → response correlation r ≡ four_bytes (length (after_size correlation api r)) ++ after_size correlation api r
+ResponsesAreFramed =
+    (correlation : ℤ) (r : Reply) (api : Api) → sent_as r ≡ Some api
+    → negsuc 2147483647 ≤ℤ correlation → correlation <ℤ pos 2147483648
+    → length (after_size correlation api r) < 2147483648
+    → response correlation r
+    ≡ four_bytes (length (after_size correlation api r)) ++ after_size correlation api r

@@ -29,40 +29,71 @@ use Rattle.api_laws.specs.AclLaws.{IsRefusedWhole}
 
 -- the topics that may be described, in order, with all that they hold
 abbrev pub described_slots : Rules → Caller → List TopicValue → List TopicValue
-described_slots rules caller topics = filter (λ (t : TopicValue). is_none (topic_refusal rules caller t.name)) topics
+described_slots rules caller topics =
+    filter (λ (t : TopicValue). is_none (topic_refusal rules caller t.name)) topics
 
 -- where all offsets of a group are asked for, the worlds agree on the topics that may be described
 abbrev pub SameWanted : World → World → Caller → Option (List (Topic ℤ)) → Type 0
-SameWanted v w caller None = described_slots (rules_of v) caller v.topics ≡ described_slots (rules_of w) caller w.topics
+SameWanted v w caller None =
+    described_slots (rules_of v) caller v.topics ≡ described_slots (rules_of w) caller w.topics
 SameWanted v w caller (Some ts) = Unit {0}
 
 -- Worlds that agree on what is granted of a request give it the same answer.
 pub record GroupsDependOnGrants : Type 0 where
-  pub joins : (v w : World) (caller : Caller) (r : JoinGroupRequest) → SameBase v w → SameGranted v w (read_question caller r.group ∷ []) → SameAnswer (join_group_outcome v caller r) (join_group_outcome w caller r)
-  pub syncs : (v w : World) (caller : Caller) (r : SyncGroupRequest) → SameBase v w → SameGranted v w (read_question caller r.group ∷ []) → SameAnswer (sync_group_outcome v caller r) (sync_group_outcome w caller r)
-  pub beats : (v w : World) (caller : Caller) (r : HeartbeatRequest) → SameBase v w → SameGranted v w (read_question caller r.group ∷ []) → SameAnswer (heartbeat_outcome v caller r) (heartbeat_outcome w caller r)
-  pub leaves : (v w : World) (caller : Caller) (r : LeaveGroupRequest) → SameBase v w → SameGranted v w (read_question caller r.group ∷ []) → SameAnswer (leave_group_outcome v caller r) (leave_group_outcome w caller r)
-  pub finds : (v w : World) (caller : Caller) (r : FindCoordinatorRequest) → SameBase v w → SameAnswer (find_coordinator_outcome v caller r) (find_coordinator_outcome w caller r)
-  pub commits : (v w : World) (caller : Caller) (r : OffsetCommitRequest) → SameBase v w → SameForParts v w (committing_rule w caller r) r.topics → SameAnswer (offset_commit_outcome v caller r) (offset_commit_outcome w caller r)
-  pub fetches : (v w : World) (caller : Caller) (r : OffsetFetchRequest) → SameBase v w → SameGranted v w (group_question caller r.group ∷ []) → SameWanted v w caller r.topics → SameAnswer (offset_fetch_outcome v caller r) (offset_fetch_outcome w caller r)
+  pub joins : (v w : World) (caller : Caller) (r : JoinGroupRequest) → SameBase v w
+      → SameGranted v w (read_question caller r.group ∷ [])
+      → SameAnswer (join_group_outcome v caller r) (join_group_outcome w caller r)
+  pub syncs : (v w : World) (caller : Caller) (r : SyncGroupRequest) → SameBase v w
+      → SameGranted v w (read_question caller r.group ∷ [])
+      → SameAnswer (sync_group_outcome v caller r) (sync_group_outcome w caller r)
+  pub beats : (v w : World) (caller : Caller) (r : HeartbeatRequest) → SameBase v w
+      → SameGranted v w (read_question caller r.group ∷ [])
+      → SameAnswer (heartbeat_outcome v caller r) (heartbeat_outcome w caller r)
+  pub leaves : (v w : World) (caller : Caller) (r : LeaveGroupRequest) → SameBase v w
+      → SameGranted v w (read_question caller r.group ∷ [])
+      → SameAnswer (leave_group_outcome v caller r) (leave_group_outcome w caller r)
+  pub finds : (v w : World) (caller : Caller) (r : FindCoordinatorRequest) → SameBase v w
+      → SameAnswer (find_coordinator_outcome v caller r) (find_coordinator_outcome w caller r)
+  pub commits : (v w : World) (caller : Caller) (r : OffsetCommitRequest) → SameBase v w
+      → SameForParts v w (committing_rule w caller r) r.topics
+      → SameAnswer (offset_commit_outcome v caller r) (offset_commit_outcome w caller r)
+  pub fetches : (v w : World) (caller : Caller) (r : OffsetFetchRequest) → SameBase v w
+      → SameGranted v w (group_question caller r.group ∷ []) → SameWanted v w caller r.topics
+      → SameAnswer (offset_fetch_outcome v caller r) (offset_fetch_outcome w caller r)
 
 -- ---- what stays as it was
 
 -- another group is as before, and no log and no transactional id is touched
 pub record KeepsOtherGroups (w : World) (group : List ℕ) (o : HandlerResult) : Type 0 where
-  pub others : (other : List ℕ) → (other ≡ group → ⊥) → find_group o.world.groups other ≡ find_group w.groups other
+  pub others : (other : List ℕ) → (other ≡ group → ⊥)
+      → find_group o.world.groups other ≡ find_group w.groups other
   pub topics : o.world.topics ≡ w.topics
   pub coordinator : o.world.coordinator ≡ w.coordinator
 
 pub record GroupsKeepTheRest : Type 0 where
-  pub joins : (w : World) (caller : Caller) (r : JoinGroupRequest) → KeepsOtherGroups w r.group (join_group_outcome w caller r)
-  pub syncs : (w : World) (caller : Caller) (r : SyncGroupRequest) → KeepsOtherGroups w r.group (sync_group_outcome w caller r)
-  pub beats : (w : World) (caller : Caller) (r : HeartbeatRequest) → KeepsOtherGroups w r.group (heartbeat_outcome w caller r)
-  pub leaves : (w : World) (caller : Caller) (r : LeaveGroupRequest) → KeepsOtherGroups w r.group (leave_group_outcome w caller r)
-  pub commits : (w : World) (caller : Caller) (r : OffsetCommitRequest) → KeepsOtherGroups w r.group (offset_commit_outcome w caller r)
+  pub joins : (w : World) (caller : Caller) (r : JoinGroupRequest)
+      → KeepsOtherGroups w r.group (join_group_outcome w caller r)
+  pub syncs : (w : World) (caller : Caller) (r : SyncGroupRequest)
+      → KeepsOtherGroups w r.group (sync_group_outcome w caller r)
+  pub beats : (w : World) (caller : Caller) (r : HeartbeatRequest)
+      → KeepsOtherGroups w r.group (heartbeat_outcome w caller r)
+  pub leaves : (w : World) (caller : Caller) (r : LeaveGroupRequest)
+      → KeepsOtherGroups w r.group (leave_group_outcome w caller r)
+  pub commits : (w : World) (caller : Caller) (r : OffsetCommitRequest)
+      → KeepsOtherGroups w r.group (offset_commit_outcome w caller r)
   -- and where reading the group isn't granted, nothing changes
-  pub refused_join : (w : World) (caller : Caller) (q : JoinGroupRequest) (r : Refusal) → part_refusal (rules_of w) (read_question caller q.group ∷ []) ≡ Some r → IsRefusedWhole w r (join_group_outcome w caller q)
-  pub refused_sync : (w : World) (caller : Caller) (q : SyncGroupRequest) (r : Refusal) → part_refusal (rules_of w) (read_question caller q.group ∷ []) ≡ Some r → IsRefusedWhole w r (sync_group_outcome w caller q)
-  pub refused_beat : (w : World) (caller : Caller) (q : HeartbeatRequest) (r : Refusal) → part_refusal (rules_of w) (read_question caller q.group ∷ []) ≡ Some r → IsRefusedWhole w r (heartbeat_outcome w caller q)
-  pub refused_leave : (w : World) (caller : Caller) (q : LeaveGroupRequest) (r : Refusal) → part_refusal (rules_of w) (read_question caller q.group ∷ []) ≡ Some r → IsRefusedWhole w r (leave_group_outcome w caller q)
-  pub refused_commit : (w : World) (caller : Caller) (q : OffsetCommitRequest) (r : Refusal) → part_refusal (rules_of w) (read_question caller q.group ∷ []) ≡ Some r → (offset_commit_outcome w caller q).world.groups ≡ w.groups
+  pub refused_join : (w : World) (caller : Caller) (q : JoinGroupRequest) (r : Refusal)
+      → part_refusal (rules_of w) (read_question caller q.group ∷ []) ≡ Some r
+      → IsRefusedWhole w r (join_group_outcome w caller q)
+  pub refused_sync : (w : World) (caller : Caller) (q : SyncGroupRequest) (r : Refusal)
+      → part_refusal (rules_of w) (read_question caller q.group ∷ []) ≡ Some r
+      → IsRefusedWhole w r (sync_group_outcome w caller q)
+  pub refused_beat : (w : World) (caller : Caller) (q : HeartbeatRequest) (r : Refusal)
+      → part_refusal (rules_of w) (read_question caller q.group ∷ []) ≡ Some r
+      → IsRefusedWhole w r (heartbeat_outcome w caller q)
+  pub refused_leave : (w : World) (caller : Caller) (q : LeaveGroupRequest) (r : Refusal)
+      → part_refusal (rules_of w) (read_question caller q.group ∷ []) ≡ Some r
+      → IsRefusedWhole w r (leave_group_outcome w caller q)
+  pub refused_commit : (w : World) (caller : Caller) (q : OffsetCommitRequest) (r : Refusal)
+      → part_refusal (rules_of w) (read_question caller q.group ∷ []) ≡ Some r
+      → (offset_commit_outcome w caller q).world.groups ≡ w.groups

@@ -1,4 +1,5 @@
--- One refused partition of an AddPartitionsToTxn keeps all others out (KIP-98, 'AddPartitionsToTxnRequest').
+-- One refused partition of an AddPartitionsToTxn keeps all others out (KIP-98,
+-- 'AddPartitionsToTxnRequest').
 use Rattle.std.specs.Prelude.{◌≡◌, ℕ, ℤ, pos, true, is_some, List, Option, Some, None}
 use Rattle.acl_binding.specs.declared.question.Caller.{Caller}
 use Rattle.wire_types.specs.declared.topic.Topic.{Topic}
@@ -17,10 +18,18 @@ abbrev pub not_attempted_code : Option LogValue → ℤ
 not_attempted_code (Some log) = pos 55
 not_attempted_code None = pos 3
 
--- where the partition at some place is refused, nothing changes, and each one that isn't refused itself is told so
+-- where the partition at some place is refused, nothing changes, and each one that isn't refused
+-- itself is told so
 pub record RefusedKeepsOut : Type 0 where
-  pub unchanged : (w : World) (caller : Caller) (client : Option (List ℕ)) (r : AddPartitionsToTxnRequest) (place : Place) → is_some (first_refused w caller (rows_at (AddPartitionsToTxn r) place)) ≡ true
+  pub unchanged : (w : World) (caller : Caller) (client : Option (List ℕ))
+      (r : AddPartitionsToTxnRequest) (place : Place)
+      → is_some (first_refused w caller (rows_at (AddPartitionsToTxn r) place)) ≡ true
       → (outcome w (Ask caller client (AddPartitionsToTxn r))).world ≡ w
-  pub others : (w : World) (caller : Caller) (client : Option (List ℕ)) (r : AddPartitionsToTxnRequest) (place : Place) → is_some (first_refused w caller (rows_at (AddPartitionsToTxn r) place)) ≡ true
-      → (i j : ℕ) (t : Topic ℤ) (index : ℤ) → element_at r.topics i ≡ Some t → element_at t.partitions j ≡ Some index → first_refused w caller (rows_at (AddPartitionsToTxn r) (PartitionAt i j)) ≡ None
-      → error_at (reply_to w (Ask caller client (AddPartitionsToTxn r))) (PartitionAt i j) ≡ Some (not_attempted_code (log_at w.topics t.name index))
+  pub others : (w : World) (caller : Caller) (client : Option (List ℕ))
+      (r : AddPartitionsToTxnRequest) (place : Place)
+      → is_some (first_refused w caller (rows_at (AddPartitionsToTxn r) place)) ≡ true
+      → (i j : ℕ) (t : Topic ℤ) (index : ℤ) → element_at r.topics i ≡ Some t
+      → element_at t.partitions j ≡ Some index
+      → first_refused w caller (rows_at (AddPartitionsToTxn r) (PartitionAt i j)) ≡ None
+      → error_at (reply_to w (Ask caller client (AddPartitionsToTxn r))) (PartitionAt i j)
+      ≡ Some (not_attempted_code (log_at w.topics t.name index))

@@ -1,4 +1,5 @@
--- The last stable offset, in words of its own (KIP-98, "Read Committed": the offset below which each transaction is decided).
+-- The last stable offset, in words of its own (KIP-98, "Read Committed": the offset below which
+-- each transaction is decided).
 use Rattle.std.specs.Prelude.{◌≡◌, ◌⊎◌, ◌≤ℤ◌, ℤ, true, false, List, ◌∷◌, ◌++◌}
 use Rattle.std.specs.List.{AllByRecursion}
 use Rattle.record_batch.specs.BatchHeader.{is_control, is_transactional}
@@ -9,7 +10,10 @@ use Rattle.partition_log.specs.Log.{IsLog, end_of, last_stable_offset}
 pub record IsUnended (b : BatchData) (after : List BatchData) : Type 0 where
   pub transactional : is_transactional b.header ≡ true
   pub no_marker : is_control b.header ≡ false
-  pub unended : AllByRecursion (λ (m : BatchData). is_control m.header ≡ true → m.header.producer_id ≡ b.header.producer_id → ⊥) after
+  pub unended : AllByRecursion
+      (λ (m : BatchData). is_control m.header ≡ true → m.header.producer_id ≡ b.header.producer_id
+      → ⊥)
+      after
 
 -- such a batch stands in the log at this offset
 pub record HasUnendedAt (log : List BatchData) (offset : ℤ) : Type 0 where
@@ -22,7 +26,8 @@ pub record HasUnendedAt (log : List BatchData) (offset : ℤ) : Type 0 where
 
 -- of a log: no such batch stands below it, and one stands at it, or it is the end
 pub record IsLastStable (log : List BatchData) (offset : ℤ) : Type 0 where
-  pub below : (before after : List BatchData) (b : BatchData) → log ≡ before ++ b ∷ after → IsUnended b after → offset ≤ℤ b.header.base_offset
+  pub below : (before after : List BatchData) (b : BatchData) → log ≡ before ++ b ∷ after
+      → IsUnended b after → offset ≤ℤ b.header.base_offset
   pub reached : (offset ≡ end_of log) ⊎ HasUnendedAt log offset
 
 abbrev pub LastStableIsExact : Type 0

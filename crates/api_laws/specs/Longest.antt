@@ -6,20 +6,31 @@ use Rattle.partition_log.specs.Log.{end_of, last_stable_offset}
 use Rattle.partition_log.specs.Fetch.{batches_below, batches_from, served_of}
 use Rattle.partition_log.specs.Laws.{total_bytes}
 
--- Of the whole batches that stand below the limit, from the one on that holds the offset, it is a beginning, which fits into the
--- budget or is the first alone where one is forced. No longer beginning fits; and none is served only where there is none, or where
--- the first is longer than the budget and none is forced.
-pub record IsLongest (log : List BatchData) (offset limit : ℤ) (budget : ℕ) (forced : Bool) (run : List BatchData) : Type 0 where
+-- Of the whole batches that stand below the limit, from the one on that holds the offset, it is a
+-- beginning, which fits into the budget or is the first alone where one is forced. No longer
+-- beginning fits; and none is served only where there is none, or where the first is longer than
+-- the budget and none is forced.
+pub record IsLongest (log : List BatchData) (offset limit : ℤ) (budget : ℕ) (forced : Bool)
+    (run : List BatchData) : Type 0 where
   pub rest : List BatchData
   pub first : batches_below limit (batches_from offset log) ≡ run ++ rest
   pub fits : (total_bytes run ≤ budget) ⊎ ((forced ≡ true) × (length run ≡ 1))
-  pub most : (longer rest : List BatchData) → batches_below limit (batches_from offset log) ≡ longer ++ rest → total_bytes longer ≤ budget → length longer ≤ length run
-  pub none : run ≡ [] → (b : BatchData) (rest : List BatchData) → batches_below limit (batches_from offset log) ≡ b ∷ rest → (forced ≡ false) × (budget < length b.bytes)
+  pub most : (longer rest : List BatchData)
+      → batches_below limit (batches_from offset log) ≡ longer ++ rest → total_bytes longer ≤ budget
+      → length longer ≤ length run
+  pub none : run ≡ [] → (b : BatchData) (rest : List BatchData)
+      → batches_below limit (batches_from offset log) ≡ b ∷ rest
+      → (forced ≡ false) × (budget < length b.bytes)
 
 -- read_uncommitted goes to the log's end, and read_committed to the last stable offset
-pub record ServesTheLongest (log : List BatchData) (offset : ℤ) (budget : ℕ) (forced : Bool) : Type 0 where
-  pub uncommitted : IsLongest log offset (end_of log) budget forced (served_of log offset ReadUncommitted budget forced).batches
-  pub committed : IsLongest log offset (last_stable_offset log) budget forced (served_of log offset ReadCommitted budget forced).batches
+pub record ServesTheLongest (log : List BatchData) (offset : ℤ) (budget : ℕ) (forced : Bool)
+    : Type 0 where
+  pub uncommitted : IsLongest log offset (end_of log) budget forced
+      (served_of log offset ReadUncommitted budget forced).batches
+  pub committed : IsLongest log offset (last_stable_offset log) budget forced
+      (served_of log offset ReadCommitted budget forced).batches
 
 abbrev pub ServesWhatFits : Type 0
-ServesWhatFits = (log : List BatchData) (offset : ℤ) (budget : ℕ) (forced : Bool) → ServesTheLongest log offset budget forced
+ServesWhatFits =
+    (log : List BatchData) (offset : ℤ) (budget : ℕ) (forced : Bool)
+    → ServesTheLongest log offset budget forced

@@ -9,5 +9,7 @@ use Rattle.walk.specs.Codes.{refusal_code}
 pub record RefusalsByNumber : Type 0 where
   pub topic : (r : Refusal) → r.question.kind ≡ kinds.Topic → number_of (refusal_code r) ≡ pos 29
   pub group : (r : Refusal) → r.question.kind ≡ kinds.Group → number_of (refusal_code r) ≡ pos 30
-  pub cluster : (r : Refusal) → r.question.kind ≡ kinds.Cluster → number_of (refusal_code r) ≡ pos 31
-  pub transactional_id : (r : Refusal) → r.question.kind ≡ kinds.TransactionalId → number_of (refusal_code r) ≡ pos 53
+  pub cluster : (r : Refusal) → r.question.kind ≡ kinds.Cluster
+      → number_of (refusal_code r) ≡ pos 31
+  pub transactional_id : (r : Refusal) → r.question.kind ≡ kinds.TransactionalId
+      → number_of (refusal_code r) ≡ pos 53

@@ -1,4 +1,5 @@
--- One node is the whole cluster (Kafka protocol guide, "Metadata API (Key: 3)" and "FindCoordinator API (Key: 10)").
+-- One node is the whole cluster (Kafka protocol guide, "Metadata API (Key: 3)" and "FindCoordinator
+-- API (Key: 10)").
 use Rattle.std.specs.Prelude.{◌≡◌, ◌⊎◌, ℕ, ℤ, pos, negsuc, List, [], ◌∷◌, slice_get, Option, Some, None}
 use Rattle.acl_binding.specs.declared.question.Caller.{Caller}
 use Rattle.settings.specs.declared.settings.Settings.{Settings}
@@ -28,9 +29,11 @@ pub record IsLed (node : ℤ) (place : ℕ) (p : PartitionInfo) : Type 0 where
 
 -- the node is the only broker, the controller, and leads each partition that is told of
 pub record ListsTheNode (w : World) (reply : MetadataReply) : Type 0 where
-  pub brokers : reply.brokers ≡ record { node = w.node.node_id; host = w.node.host; port = w.node.port; rack = None } ∷ []
+  pub brokers : reply.brokers
+      ≡ record { node = w.node.node_id; host = w.node.host; port = w.node.port; rack = None } ∷ []
   pub controller : reply.controller ≡ w.node.node_id
-  pub partitions : (i j : ℕ) (t : TopicInfo) (p : PartitionInfo) → slice_get reply.topics i ≡ Some t → slice_get t.partitions j ≡ Some p → IsLed w.node.node_id j p
+  pub partitions : (i j : ℕ) (t : TopicInfo) (p : PartitionInfo) → slice_get reply.topics i ≡ Some t
+      → slice_get t.partitions j ≡ Some p → IsLed w.node.node_id j p
 
 -- ---- FindCoordinator
 
@@ -44,9 +47,10 @@ pub record IsNoNode (reply : FindCoordinatorReply) : Type 0 where
   pub host : reply.host ≡ []
   pub port : reply.port ≡ negsuc 0
 
--- without an error it is the node, and with one it is none; 42 is told exactly where the key is of another type than a group's (0)
--- and a transactional id's (1)
-pub record FindsTheNode (w : World) (r : FindCoordinatorRequest) (reply : FindCoordinatorReply) : Type 0 where
+-- without an error it is the node, and with one it is none; 42 is told exactly where the key is of
+-- another type than a group's (0) and a transactional id's (1)
+pub record FindsTheNode (w : World) (r : FindCoordinatorRequest) (reply : FindCoordinatorReply)
+    : Type 0 where
   pub found : number_of reply.error ≡ pos 0 → IsTheNode w reply
   pub failed : (number_of reply.error ≡ pos 0 → ⊥) → IsNoNode reply
   pub typed : (r.key_type ≡ pos 0) ⊎ (r.key_type ≡ pos 1) → number_of reply.error ≡ pos 42 → ⊥
@@ -63,5 +67,10 @@ pub record IsNodeOf (s : Settings) (w : World) : Type 0 where
 -- whatever the world is and whoever asks
 pub record OneNodeIsAll : Type 0 where
   pub first : (s : Settings) → IsNodeOf s (first_world s)
-  pub listed : (w : World) (caller : Caller) (client : Option (List ℕ)) (m : MetadataRequest) (reply : MetadataReply) → reply_to w (Ask caller client (Metadata m)) ≡ replies.Metadata reply → ListsTheNode w reply
-  pub found : (w : World) (caller : Caller) (client : Option (List ℕ)) (r : FindCoordinatorRequest) (reply : FindCoordinatorReply) → reply_to w (Ask caller client (FindCoordinator r)) ≡ replies.FindCoordinator reply → FindsTheNode w r reply
+  pub listed : (w : World) (caller : Caller) (client : Option (List ℕ)) (m : MetadataRequest)
+      (reply : MetadataReply)
+      → reply_to w (Ask caller client (Metadata m)) ≡ replies.Metadata reply → ListsTheNode w reply
+  pub found : (w : World) (caller : Caller) (client : Option (List ℕ)) (r : FindCoordinatorRequest)
+      (reply : FindCoordinatorReply)
+      → reply_to w (Ask caller client (FindCoordinator r)) ≡ replies.FindCoordinator reply
+      → FindsTheNode w r reply

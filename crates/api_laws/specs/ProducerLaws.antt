@@ -27,10 +27,13 @@ use Rattle.api_laws.specs.AclLaws.{IsRefusedWhole}
 
 -- ---- idempotent producers
 
--- Whatever the events were, each log holds what a producer wrote in an epoch once, in order and without a gap: its first
--- batch begins at sequence number 0, and each other one where the one before it ended.
+-- Whatever the events were, each log holds what a producer wrote in an epoch once, in order and
+-- without a gap: its first batch begins at sequence number 0, and each other one where the one
+-- before it ended.
 abbrev pub HoldsOnce : Type 0
-HoldsOnce = (s : Settings) (es : List Event) (name : List ℕ) (index : ℤ) (log : LogValue) (id epoch : ℤ) → log_at (world_after_events (first_world s) es).topics name index ≡ Some log → pos 0 ≤ℤ id
+HoldsOnce =
+    (s : Settings) (es : List Event) (name : List ℕ) (index : ℤ) (log : LogValue) (id epoch : ℤ)
+    → log_at (world_after_events (first_world s) es).topics name index ≡ Some log → pos 0 ≤ℤ id
     → IsInSequence (pos 0) (batches_written_by id epoch log)
 
 -- ---- InitProducerId
@@ -41,20 +44,37 @@ pub record GivesFresh (w : World) (o : HandlerResult) : Type 0 where
   pub reply : o.reply ≡ replies.InitProducerId (init_given producer)
   pub never : given_by (owner w.coordinator producer) ≡ Never
   pub now : given_by (owner o.world.coordinator producer) ≡ Free
-  pub others : (id : ℤ) → (id ≡ producer → ⊥) → owner o.world.coordinator id ≡ owner w.coordinator id
+  pub others : (id : ℤ) → (id ≡ producer → ⊥)
+      → owner o.world.coordinator id ≡ owner w.coordinator id
 
 pub record InitsOnce : Type 0 where
   -- without a transactional id, where it is allowed
-  pub fresh : (w : World) (caller : Caller) (r : InitProducerIdRequest) → r.transactional_id ≡ None → part_refusal (rules_of w) (init_questions (rules_of w) caller None) ≡ None → GivesFresh w (init_producer_id_outcome w caller r)
-  pub refused : (w : World) (caller : Caller) (q : InitProducerIdRequest) (r : Refusal) → part_refusal (rules_of w) (init_questions (rules_of w) caller q.transactional_id) ≡ Some r → IsRefusedWhole w r (init_producer_id_outcome w caller q)
-  -- without one it is allowed to whoever may write to some topic, and refused to another as the question is
-  pub waived : (rules : Rules) (caller : Caller) → any_topic rules.book.entries caller.who caller.host ≡ true → part_refusal rules (init_questions rules caller None) ≡ None
-  pub unwaived : (rules : Rules) (caller : Caller) → any_topic rules.book.entries caller.who caller.host ≡ false → part_refusal rules (init_questions rules caller None) ≡ question_refusal rules (init_question caller None)
+  pub fresh : (w : World) (caller : Caller) (r : InitProducerIdRequest) → r.transactional_id ≡ None
+      → part_refusal (rules_of w) (init_questions (rules_of w) caller None) ≡ None
+      → GivesFresh w (init_producer_id_outcome w caller r)
+  pub refused : (w : World) (caller : Caller) (q : InitProducerIdRequest) (r : Refusal)
+      → part_refusal (rules_of w) (init_questions (rules_of w) caller q.transactional_id) ≡ Some r
+      → IsRefusedWhole w r (init_producer_id_outcome w caller q)
+  -- without one it is allowed to whoever may write to some topic, and refused to another as the
+  -- question is
+  pub waived : (rules : Rules) (caller : Caller)
+      → any_topic rules.book.entries caller.who caller.host ≡ true
+      → part_refusal rules (init_questions rules caller None) ≡ None
+  pub unwaived : (rules : Rules) (caller : Caller)
+      → any_topic rules.book.entries caller.who caller.host ≡ false
+      → part_refusal rules (init_questions rules caller None)
+      ≡ question_refusal rules (init_question caller None)
   -- so it is allowed to whoever is granted to write a topic, of whatever name
-  pub granted : (rules : Rules) (caller : Caller) (name : List ℕ) → question_refusal rules (question_of caller Write Topic name) ≡ None → part_refusal rules (init_questions rules caller None) ≡ None
+  pub granted : (rules : Rules) (caller : Caller) (name : List ℕ)
+      → question_refusal rules (question_of caller Write Topic name) ≡ None
+      → part_refusal rules (init_questions rules caller None) ≡ None
 
--- Worlds of one book that gave out the same producer ids, and that agree on the transactional id where writing with it
--- is granted, give the same answer, whatever their topics hold; and no topic is touched.
+-- Worlds of one book that gave out the same producer ids, and that agree on the transactional id
+-- where writing with it is granted, give the same answer, whatever their topics hold; and no topic
+-- is touched.
 pub record InitDependsOnGrants : Type 0 where
-  pub same : (v w : World) (caller : Caller) (r : InitProducerIdRequest) → SameBase v w → SameGranted v w (init_questions (rules_of w) caller r.transactional_id) → SameAnswer (init_producer_id_outcome v caller r) (init_producer_id_outcome w caller r)
-  pub topics : (w : World) (caller : Caller) (r : InitProducerIdRequest) → (init_producer_id_outcome w caller r).world.topics ≡ w.topics
+  pub same : (v w : World) (caller : Caller) (r : InitProducerIdRequest) → SameBase v w
+      → SameGranted v w (init_questions (rules_of w) caller r.transactional_id)
+      → SameAnswer (init_producer_id_outcome v caller r) (init_producer_id_outcome w caller r)
+  pub topics : (w : World) (caller : Caller) (r : InitProducerIdRequest)
+      → (init_producer_id_outcome w caller r).world.topics ≡ w.topics

@@ -1,4 +1,5 @@
--- What the refusals of a request are of, as the audit tells them: for each refused part the first row that isn't granted.
+-- What the refusals of a request are of, as the audit tells them: for each refused part the first
+-- row that isn't granted.
 use Rattle.std.specs.Prelude.{◌≡◌, ℕ, ℤ, List, [], ◌∷◌, map, Option, Some, None}
 use Rattle.std.specs.List.{flat_map, filter_map}
 use Rattle.acl_binding.specs.declared.question.Caller.{Caller}
@@ -36,8 +37,10 @@ part_rows (requests.ListOffsets r) = rows_of_parts (topic_rows (requests.ListOff
 part_rows (requests.Metadata r) = rows_of_names (topic_rows (requests.Metadata r)) r.topics
 part_rows (requests.OffsetCommit r) = rows_of_parts (topic_rows (requests.OffsetCommit r)) r.topics
 part_rows (requests.OffsetFetch r) = rows_of_offsets (topic_rows (requests.OffsetFetch r)) r.topics
-part_rows (requests.AddPartitionsToTxn r) = rows_of_parts (topic_rows (requests.AddPartitionsToTxn r)) r.topics
-part_rows (requests.TxnOffsetCommit r) = rows_of_parts (topic_rows (requests.TxnOffsetCommit r)) r.topics
+part_rows (requests.AddPartitionsToTxn r) =
+    rows_of_parts (topic_rows (requests.AddPartitionsToTxn r)) r.topics
+part_rows (requests.TxnOffsetCommit r) =
+    rows_of_parts (topic_rows (requests.TxnOffsetCommit r)) r.topics
 part_rows request = []
 
 -- ---- what is refused of it
@@ -48,7 +51,9 @@ itself_or (Some r) parts = r ∷ []
 itself_or None parts = parts
 
 abbrev pub refused_rows : World → Caller → Request → List Row
-refused_rows w caller request = itself_or (first_refused w caller (request_rows w caller request)) (filter_map (first_refused w caller) (part_rows request))
+refused_rows w caller request =
+    itself_or (first_refused w caller (request_rows w caller request))
+    (filter_map (first_refused w caller) (part_rows request))
 
 -- by its verdict: the binding that denies it, or that nothing allows it
 abbrev pub reason : Verdict → DenyReason
@@ -57,8 +62,15 @@ reason Nothing = why.Nothing
 reason Yes = why.Nothing
 
 abbrev pub row_refusal : World → Caller → Row → Refusal
-row_refusal w caller r = record { question = row_question caller r; why = reason (verdict w.book w.supers (row_question caller r)) }
+row_refusal w caller r =
+    record {
+      question = row_question caller r;
+      why = reason (verdict w.book w.supers (row_question caller r));
+    }
 
 -- one refusal for each of them, in order, and no other
 abbrev pub RefusalsByTable : Type 0
-RefusalsByTable = (w : World) (caller : Caller) (client : Option (List ℕ)) (request : Request) → refusals_of w (Ask caller client request) ≡ map (row_refusal w caller) (refused_rows w caller request)
+RefusalsByTable =
+    (w : World) (caller : Caller) (client : Option (List ℕ)) (request : Request)
+    → refusals_of w (Ask caller client request)
+    ≡ map (row_refusal w caller) (refused_rows w caller request)

@@ -1,4 +1,5 @@
--- What is sent again (KIP-98, "Idempotent Producer Guarantees": duplicates of the last five batches are told their offsets).
+-- What is sent again (KIP-98, "Idempotent Producer Guarantees": duplicates of the last five batches
+-- are told their offsets).
 use Rattle.std.specs.Prelude.{◌≡◌, ◌≤◌, ◌<◌, ◌≤ℤ◌, ◌<ℤ◌, ℕ, ℤ, pos, negsuc, List, [], ◌∷◌, ◌++◌, length, Some, None}
 use Rattle.acl_binding.specs.declared.question.Caller.{Caller}
 use Rattle.wire_types.specs.declared.error_code.ErrorCode.{ErrorCode}
@@ -20,9 +21,10 @@ use Rattle.data_handlers.specs.Produce.{produce_outcome}
 use Rattle.api_dispatch.specs.Step.{world_after_events}
 use Rattle.api_laws.specs.Acceptance.{IsProper, same_writer, IsInLatestEpoch, next_number, IsNew, HasPart, IsTold}
 
--- the batch stands here in a log that events reach: it has records and a producer, and no batch or marker of the log tells a
--- greater epoch of that producer
-pub record StandsIn (s : Settings) (es : List Event) (name : List ℕ) (index : ℤ) (log before after : LogValue) (b : BatchData) : Type 0 where
+-- the batch stands here in a log that events reach: it has records and a producer, and no batch or
+-- marker of the log tells a greater epoch of that producer
+pub record StandsIn (s : Settings) (es : List Event) (name : List ℕ) (index : ℤ)
+    (log before after : LogValue) (b : BatchData) : Type 0 where
   pub there : log_at (world_after_events (first_world s) es).topics name index ≡ Some log
   pub place : log ≡ before ++ b ∷ after
   pub no_marker : b.marker ≡ None
@@ -44,7 +46,8 @@ pub record IsRefusedBy (number : ℕ) (j : Judgment) : Type 0 where
   pub numbered : number_of code ≡ pos number
 
 -- what repeats is one of the last five, sent again
-pub record IsOneOfFive (s : Settings) (es : List Event) (name : List ℕ) (index : ℤ) (log : LogValue) (again : BatchData) (offset : ℤ) : Type 0 where
+pub record IsOneOfFive (s : Settings) (es : List Event) (name : List ℕ) (index : ℤ) (log : LogValue)
+    (again : BatchData) (offset : ℤ) : Type 0 where
   pub before : LogValue
   pub b : BatchData
   pub after : LogValue
@@ -53,17 +56,20 @@ pub record IsOneOfFive (s : Settings) (es : List Event) (name : List ℕ) (index
   pub same : IsSentAgain b again
   pub told : offset ≡ b.header.base_offset
 
--- It leaves a gap: it begins neither at 0 as the first one of its epoch, nor where the last one ended; and it is none of the last
--- five.
+-- It leaves a gap: it begins neither at 0 as the first one of its epoch, nor where the last one
+-- ended; and it is none of the last five.
 pub record LeavesGap (log : LogValue) (b : BatchData) : Type 0 where
   pub producer : pos 0 ≤ℤ b.header.producer_id
   pub latest : IsInLatestEpoch log b
   pub not_first : same_writer b log ≡ [] → b.header.base_sequence ≡ pos 0 → ⊥
-  pub not_next : (earlier : LogValue) (last : BatchData) → same_writer b log ≡ earlier ++ last ∷ [] → b.header.base_sequence ≡ next_number last → ⊥
+  pub not_next : (earlier : LogValue) (last : BatchData) → same_writer b log ≡ earlier ++ last ∷ []
+      → b.header.base_sequence ≡ next_number last → ⊥
   pub new : IsNew log b
 
 -- a request is answered this error and offset at these places, and the partition's log is as it was
-pub record IsUnchangedBy (number : ℕ) (offset : ℤ) (w : World) (caller : Caller) (r : ProduceRequest) (i j : ℕ) (name : List ℕ) (p : ProducedRecords) (log : LogValue) : Type 0 where
+pub record IsUnchangedBy (number : ℕ) (offset : ℤ) (w : World) (caller : Caller)
+    (r : ProduceRequest) (i j : ℕ) (name : List ℕ) (p : ProducedRecords) (log : LogValue)
+    : Type 0 where
   pub answer : ProducedOffset
   pub told : IsTold w caller r i j name answer
   pub same_index : answer.index ≡ p.index
@@ -71,24 +77,44 @@ pub record IsUnchangedBy (number : ℕ) (offset : ℤ) (w : World) (caller : Cal
   pub at : answer.base_offset ≡ offset
   pub same : log_at (produce_outcome w caller r).world.topics name p.index ≡ Some log
 
--- So each permitted part of a request is answered in the world that the events reach, if what it sends is this batch and is proper.
+-- So each permitted part of a request is answered in the world that the events reach, if what it
+-- sends is this batch and is proper.
 abbrev pub IsAnsweredAs : ℕ → ℤ → Settings → List Event → List ℕ → ℤ → LogValue → BatchData → Type 0
-IsAnsweredAs number offset s es name index log b = (caller : Caller) (r : ProduceRequest) (p : ProducedRecords) (part : HasPart (world_after_events (first_world s) es) caller r name p) → p.index ≡ index
-    → IsProper (world_after_events (first_world s) es).node.max_batch (world_after_events (first_world s) es).coordinator r.transactional_id r.acks name p b
-    → IsUnchangedBy number offset (world_after_events (first_world s) es) caller r (length part.before) (length part.parts) name p log
+IsAnsweredAs number offset s es name index log b =
+    (caller : Caller) (r : ProduceRequest) (p : ProducedRecords)
+    (part : HasPart (world_after_events (first_world s) es) caller r name p)
+    → p.index ≡ index
+    → IsProper (world_after_events (first_world s) es).node.max_batch
+    (world_after_events (first_world s) es).coordinator r.transactional_id r.acks name p b
+    → IsUnchangedBy number offset (world_after_events (first_world s) es) caller r
+    (length part.before) (length part.parts) name p log
 
 pub record LastFiveRepeat : Type 0 where
-  -- One of the last five batches of a producer's epoch that is sent again is told its old offset. (No later one has
-  -- its numbers as long as there are at most 2^31 records from it on.)
-  pub repeats : (s : Settings) (es : List Event) (name : List ℕ) (index : ℤ) (log before after : LogValue) (b again : BatchData) → StandsIn s es name index log before after b → IsSentAgain b again → batches_after b after ≤ 4 → records_from b after ≤ 2147483648
-      → (judged_by_log log again ≡ Repeat b.header.base_offset) × IsAnsweredAs 0 b.header.base_offset s es name index log again
-  -- The sixth last and each one before it are out of order: 45. (As long as there are fewer than 2^31 records from it on: after so
-  -- many its numbers are the next ones again.)
-  pub too_old : (s : Settings) (es : List Event) (name : List ℕ) (index : ℤ) (log before after : LogValue) (b again : BatchData) → StandsIn s es name index log before after b → IsSentAgain b again → 5 ≤ batches_after b after → records_from b after < 2147483648
-      → IsRefusedBy 45 (judged_by_log log again) × IsAnsweredAs 45 (negsuc 0) s es name index log again
+  -- One of the last five batches of a producer's epoch that is sent again is told its old offset.
+  -- (No later one has its numbers as long as there are at most 2^31 records from it on.)
+  pub repeats : (s : Settings) (es : List Event) (name : List ℕ) (index : ℤ)
+      (log before after : LogValue) (b again : BatchData)
+      → StandsIn s es name index log before after b → IsSentAgain b again
+      → batches_after b after ≤ 4 → records_from b after ≤ 2147483648
+      → (judged_by_log log again ≡ Repeat b.header.base_offset)
+      × IsAnsweredAs 0 b.header.base_offset s es name index log again
+  -- The sixth last and each one before it are out of order: 45. (As long as there are fewer than
+  -- 2^31 records from it on: after so many its numbers are the next ones again.)
+  pub too_old : (s : Settings) (es : List Event) (name : List ℕ) (index : ℤ)
+      (log before after : LogValue) (b again : BatchData)
+      → StandsIn s es name index log before after b → IsSentAgain b again
+      → 5 ≤ batches_after b after → records_from b after < 2147483648
+      → IsRefusedBy 45 (judged_by_log log again)
+      × IsAnsweredAs 45 (negsuc 0) s es name index log again
   -- And nothing else is a repeat. (The number of records is one of 32 bits.)
-  pub alone : (s : Settings) (es : List Event) (name : List ℕ) (index : ℤ) (log : LogValue) (again : BatchData) (offset : ℤ) → log_at (world_after_events (first_world s) es).topics name index ≡ Some log → pos 0 <ℤ again.header.record_count → again.header.record_count ≤ℤ pos 2147483647
+  pub alone : (s : Settings) (es : List Event) (name : List ℕ) (index : ℤ) (log : LogValue)
+      (again : BatchData) (offset : ℤ)
+      → log_at (world_after_events (first_world s) es).topics name index ≡ Some log
+      → pos 0 <ℤ again.header.record_count → again.header.record_count ≤ℤ pos 2147483647
       → judged_by_log log again ≡ Repeat offset → IsOneOfFive s es name index log again offset
   -- What leaves a gap is out of order too.
-  pub gaps : (s : Settings) (es : List Event) (name : List ℕ) (index : ℤ) (log : LogValue) (b : BatchData) → log_at (world_after_events (first_world s) es).topics name index ≡ Some log → LeavesGap log b
+  pub gaps : (s : Settings) (es : List Event) (name : List ℕ) (index : ℤ) (log : LogValue)
+      (b : BatchData)
+      → log_at (world_after_events (first_world s) es).topics name index ≡ Some log
+      → LeavesGap log b
       → IsRefusedBy 45 (judged_by_log log b) × IsAnsweredAs 45 (negsuc 0) s es name index log b

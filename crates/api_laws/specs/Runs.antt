@@ -15,4 +15,6 @@ receipts_of core (e ∷ es) = receipt_of core e ∷ receipts_of (core_after core
 
 -- a run without a stop has a receipt for each event, and leaves the core where they lead
 abbrev pub WholeRuns : Type 0
-WholeRuns = (old new : CoreValue) (es : List Event) (rs : List ReceiptValue) → IsRun old es rs None new → (rs ≡ receipts_of old es) × (new ≡ core_after_all old es)
+WholeRuns =
+    (old new : CoreValue) (es : List Event) (rs : List ReceiptValue) → IsRun old es rs None new
+    → (rs ≡ receipts_of old es) × (new ≡ core_after_all old es)

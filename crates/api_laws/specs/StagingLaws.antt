@@ -16,17 +16,31 @@ use Rattle.api_laws.specs.AclLaws.{IsRefusedWhole}
 use Rattle.api_laws.specs.TxnLaws.{KeepsOtherIds}
 use Rattle.api_laws.specs.GroupLaws.{KeepsOtherGroups}
 
--- Worlds that agree on what is granted of a request, and on the producer ids given out, give the same answer.
+-- Worlds that agree on what is granted of a request, and on the producer ids given out, give the
+-- same answer.
 pub record StagingDependsOnGrants : Type 0 where
-  pub adds : (v w : World) (caller : Caller) (r : AddOffsetsToTxnRequest) → SameBase v w → SameGranted v w (add_offsets_questions caller r.transactional_id r.group) → SameAnswer (add_offsets_outcome v caller r) (add_offsets_outcome w caller r)
-  pub stages : (v w : World) (caller : Caller) (r : TxnOffsetCommitRequest) → SameBase v w → SameForParts v w (staging_rule w caller r) r.topics → SameAnswer (txn_offset_commit_outcome v caller r) (txn_offset_commit_outcome w caller r)
+  pub adds : (v w : World) (caller : Caller) (r : AddOffsetsToTxnRequest) → SameBase v w
+      → SameGranted v w (add_offsets_questions caller r.transactional_id r.group)
+      → SameAnswer (add_offsets_outcome v caller r) (add_offsets_outcome w caller r)
+  pub stages : (v w : World) (caller : Caller) (r : TxnOffsetCommitRequest) → SameBase v w
+      → SameForParts v w (staging_rule w caller r) r.topics
+      → SameAnswer (txn_offset_commit_outcome v caller r) (txn_offset_commit_outcome w caller r)
 
--- To add a group to a transaction changes the record of one transactional id, and no group; to stage offsets changes one
--- group, and no transactional id. No log is touched.
+-- To add a group to a transaction changes the record of one transactional id, and no group; to
+-- stage offsets changes one group, and no transactional id. No log is touched.
 pub record StagingKeepsTheRest : Type 0 where
-  pub adds : (w : World) (caller : Caller) (r : AddOffsetsToTxnRequest) → KeepsOtherIds w r.transactional_id (add_offsets_outcome w caller r)
-  pub adds_groups : (w : World) (caller : Caller) (r : AddOffsetsToTxnRequest) → (add_offsets_outcome w caller r).world.groups ≡ w.groups
-  pub stages : (w : World) (caller : Caller) (r : TxnOffsetCommitRequest) → KeepsOtherGroups w r.group (txn_offset_commit_outcome w caller r)
+  pub adds : (w : World) (caller : Caller) (r : AddOffsetsToTxnRequest)
+      → KeepsOtherIds w r.transactional_id (add_offsets_outcome w caller r)
+  pub adds_groups : (w : World) (caller : Caller) (r : AddOffsetsToTxnRequest)
+      → (add_offsets_outcome w caller r).world.groups ≡ w.groups
+  pub stages : (w : World) (caller : Caller) (r : TxnOffsetCommitRequest)
+      → KeepsOtherGroups w r.group (txn_offset_commit_outcome w caller r)
   -- and where the id may not be written, or the group not be read, nothing changes
-  pub refused_add : (w : World) (caller : Caller) (q : AddOffsetsToTxnRequest) (r : Refusal) → part_refusal (rules_of w) (add_offsets_questions caller q.transactional_id q.group) ≡ Some r → IsRefusedWhole w r (add_offsets_outcome w caller q)
-  pub refused_stage : (w : World) (caller : Caller) (q : TxnOffsetCommitRequest) (r : Refusal) → part_refusal (rules_of w) (id_question caller q.transactional_id ∷ read_question caller q.group ∷ []) ≡ Some r → (txn_offset_commit_outcome w caller q).world.groups ≡ w.groups
+  pub refused_add : (w : World) (caller : Caller) (q : AddOffsetsToTxnRequest) (r : Refusal)
+      → part_refusal (rules_of w) (add_offsets_questions caller q.transactional_id q.group) ≡ Some r
+      → IsRefusedWhole w r (add_offsets_outcome w caller q)
+  pub refused_stage : (w : World) (caller : Caller) (q : TxnOffsetCommitRequest) (r : Refusal)
+      → part_refusal (rules_of w)
+      (id_question caller q.transactional_id ∷ read_question caller q.group ∷ [])
+      ≡ Some r
+      → (txn_offset_commit_outcome w caller q).world.groups ≡ w.groups

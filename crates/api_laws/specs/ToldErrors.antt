@@ -67,29 +67,46 @@ topic_error_at topics (TopicAt i) = error_number (λ (t : TopicInfo). t.error) (
 topic_error_at topics (PartitionAt i j) = None
 
 abbrev pub error_at : Reply → Place → Option ℤ
-error_at (replies.Produce a) place = partition_error_at (λ (p : ProducedOffset). p.error) a.topics place
-error_at (replies.SilentProduce a) place = partition_error_at (λ (p : ProducedOffset). p.error) a.topics place
-error_at (replies.Fetch a) place = partition_error_at (λ (p : FetchedRecords). p.error) a.topics place
-error_at (replies.ListOffsets a) place = partition_error_at (λ (p : FoundOffset). p.error) a.topics place
+error_at (replies.Produce a) place =
+    partition_error_at (λ (p : ProducedOffset). p.error) a.topics place
+error_at (replies.SilentProduce a) place =
+    partition_error_at (λ (p : ProducedOffset). p.error) a.topics place
+error_at (replies.Fetch a) place =
+    partition_error_at (λ (p : FetchedRecords). p.error) a.topics place
+error_at (replies.ListOffsets a) place =
+    partition_error_at (λ (p : FoundOffset). p.error) a.topics place
 error_at (replies.Metadata a) place = topic_error_at a.topics place
-error_at (replies.OffsetCommit a) place = partition_error_at (λ (p : CommittedOffset). p.error) a.topics place
-error_at (replies.OffsetFetch a) place = partition_error_at (λ (p : FetchedOffset). p.error) a.topics place
-error_at (replies.AddPartitionsToTxn a) place = partition_error_at (λ (p : AddedPartition). p.error) a.topics place
-error_at (replies.TxnOffsetCommit a) place = partition_error_at (λ (p : StagedOffset). p.error) a.topics place
+error_at (replies.OffsetCommit a) place =
+    partition_error_at (λ (p : CommittedOffset). p.error) a.topics place
+error_at (replies.OffsetFetch a) place =
+    partition_error_at (λ (p : FetchedOffset). p.error) a.topics place
+error_at (replies.AddPartitionsToTxn a) place =
+    partition_error_at (λ (p : AddedPartition). p.error) a.topics place
+error_at (replies.TxnOffsetCommit a) place =
+    partition_error_at (λ (p : StagedOffset). p.error) a.topics place
 error_at reply place = None
 
 -- ---- all errors of an answer
 
 abbrev pub partition_errors : {A : Type 0} → (A → ErrorCode) → List (Topic A) → List ℤ
-partition_errors {A} error topics = flat_map (λ (t : Topic A). map (λ (a : A). number_of (error a)) t.partitions) topics
+partition_errors {A} error topics =
+    flat_map (λ (t : Topic A). map (λ (a : A). number_of (error a)) t.partitions) topics
 
 -- of each topic, and of each of its partitions
 abbrev pub info_errors : List TopicInfo → List ℤ
-info_errors topics = flat_map (λ (t : TopicInfo). number_of t.error ∷ map (λ (p : PartitionInfo). number_of p.error) t.partitions) topics
+info_errors topics =
+    flat_map
+    (λ (t : TopicInfo). number_of t.error
+    ∷ map (λ (p : PartitionInfo). number_of p.error) t.partitions)
+    topics
 
 -- of each filter, and of each binding that it took out
 abbrev pub deleted_errors : List DeletedAcls → List ℤ
-deleted_errors results = flat_map (λ (d : DeletedAcls). number_of d.error ∷ map (λ (m : DeletedAcl). number_of m.error) d.matches) results
+deleted_errors results =
+    flat_map
+    (λ (d : DeletedAcls). number_of d.error
+    ∷ map (λ (m : DeletedAcl). number_of m.error) d.matches)
+    results
 
 abbrev pub all_errors : Reply → List ℤ
 all_errors (replies.Produce a) = partition_errors (λ (p : ProducedOffset). p.error) a.topics
@@ -98,8 +115,10 @@ all_errors (replies.Fetch a) = partition_errors (λ (p : FetchedRecords). p.erro
 all_errors (replies.ListOffsets a) = partition_errors (λ (p : FoundOffset). p.error) a.topics
 all_errors (replies.Metadata a) = info_errors a.topics
 all_errors (replies.OffsetCommit a) = partition_errors (λ (p : CommittedOffset). p.error) a.topics
-all_errors (replies.OffsetFetch a) = number_of a.error ∷ partition_errors (λ (p : FetchedOffset). p.error) a.topics
-all_errors (replies.AddPartitionsToTxn a) = partition_errors (λ (p : AddedPartition). p.error) a.topics
+all_errors (replies.OffsetFetch a) =
+    number_of a.error ∷ partition_errors (λ (p : FetchedOffset). p.error) a.topics
+all_errors (replies.AddPartitionsToTxn a) =
+    partition_errors (λ (p : AddedPartition). p.error) a.topics
 all_errors (replies.TxnOffsetCommit a) = partition_errors (λ (p : StagedOffset). p.error) a.topics
 all_errors (replies.DeleteAcls a) = deleted_errors a.results
 all_errors reply = errors_itself reply

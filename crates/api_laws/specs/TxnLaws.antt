@@ -27,43 +27,68 @@ pub record IsAddable (w : World) (caller : Caller) (id name : List ℕ) (index :
   pub granted : part_refusal (rules_of w) (add_questions caller id name) ≡ None
   pub there : is_none (log_at w.topics name index) ≡ false
 
--- nothing is added: each partition that is refused is told so, each other one that it is missing, or else that nothing
--- was tried
-pub record IsCut (w : World) (caller : Caller) (r : AddPartitionsToTxnRequest) (o : HandlerResult) : Type 0 where
+-- nothing is added: each partition that is refused is told so, each other one that it is missing,
+-- or else that nothing was tried
+pub record IsCut (w : World) (caller : Caller) (r : AddPartitionsToTxnRequest) (o : HandlerResult)
+    : Type 0 where
   pub world : o.world ≡ w
-  pub reply : o.reply ≡ add_reply (answers (cut_rule caller r.transactional_id w.topics) (rules_of w) tt r.topics)
-  pub refusals : o.refusals ≡ refusals (cut_rule caller r.transactional_id w.topics) (rules_of w) r.topics
+  pub reply : o.reply
+      ≡ add_reply (answers (cut_rule caller r.transactional_id w.topics) (rules_of w) tt r.topics)
+  pub refusals : o.refusals
+      ≡ refusals (cut_rule caller r.transactional_id w.topics) (rules_of w) r.topics
 
 -- the coordinator decides, and all are told its code
 pub record IsWhole (w : World) (r : AddPartitionsToTxnRequest) (o : HandlerResult) : Type 0 where
-  pub coordinator : o.world.coordinator ≡ apply_transition w.coordinator (add_transition w.coordinator w.moment r)
+  pub coordinator : o.world.coordinator
+      ≡ apply_transition w.coordinator (add_transition w.coordinator w.moment r)
   pub topics : o.world.topics ≡ w.topics
-  pub reply : o.reply ≡ add_reply (plain_topics (code_rule (transition_code (add_transition w.coordinator w.moment r))) tt r.topics)
+  pub reply : o.reply
+      ≡ add_reply
+      (plain_topics (code_rule (transition_code (add_transition w.coordinator w.moment r))) tt
+      r.topics)
   pub refusals : o.refusals ≡ []
 
 -- where each partition may be added it is whole, and where one may not be, it is cut
 pub record AddsAllOrNone : Type 0 where
-  pub all : (w : World) (caller : Caller) (r : AddPartitionsToTxnRequest) → AllTopics (IsAddable w caller r.transactional_id) r.topics → IsWhole w r (add_partitions_outcome w caller r)
-  pub none : (w : World) (caller : Caller) (r : AddPartitionsToTxnRequest) → (AllTopics (IsAddable w caller r.transactional_id) r.topics → ⊥) → IsCut w caller r (add_partitions_outcome w caller r)
+  pub all : (w : World) (caller : Caller) (r : AddPartitionsToTxnRequest)
+      → AllTopics (IsAddable w caller r.transactional_id) r.topics
+      → IsWhole w r (add_partitions_outcome w caller r)
+  pub none : (w : World) (caller : Caller) (r : AddPartitionsToTxnRequest)
+      → (AllTopics (IsAddable w caller r.transactional_id) r.topics → ⊥)
+      → IsCut w caller r (add_partitions_outcome w caller r)
 
 -- ---- what the answers depend on
 
--- Worlds that agree on what is granted of a request, and on the producer ids given out, give the same answer.
+-- Worlds that agree on what is granted of a request, and on the producer ids given out, give the
+-- same answer.
 pub record TransactionsDependOnGrants : Type 0 where
-  pub ends : (v w : World) (caller : Caller) (r : EndTxnRequest) → SameBase v w → SameGranted v w (end_questions caller r) → SameAnswer (end_txn_outcome v caller r) (end_txn_outcome w caller r)
-  pub adds : (v w : World) (caller : Caller) (r : AddPartitionsToTxnRequest) → SameBase v w → SameForParts v w (cut_rule caller r.transactional_id w.topics) r.topics → SameAnswer (add_partitions_outcome v caller r) (add_partitions_outcome w caller r)
+  pub ends : (v w : World) (caller : Caller) (r : EndTxnRequest) → SameBase v w
+      → SameGranted v w (end_questions caller r)
+      → SameAnswer (end_txn_outcome v caller r) (end_txn_outcome w caller r)
+  pub adds : (v w : World) (caller : Caller) (r : AddPartitionsToTxnRequest) → SameBase v w
+      → SameForParts v w (cut_rule caller r.transactional_id w.topics) r.topics
+      → SameAnswer (add_partitions_outcome v caller r) (add_partitions_outcome w caller r)
 
 -- ---- what stays as it was
 
 -- another transactional id has the record that it had, and no log is touched
 pub record KeepsOtherIds (w : World) (id : List ℕ) (o : HandlerResult) : Type 0 where
-  pub others : (other : List ℕ) → (other ≡ id → ⊥) → id_record o.world.coordinator.transactions other ≡ id_record w.coordinator.transactions other
+  pub others : (other : List ℕ) → (other ≡ id → ⊥)
+      → id_record o.world.coordinator.transactions other
+      ≡ id_record w.coordinator.transactions other
   pub topics : o.world.topics ≡ w.topics
 
 pub record TransactionsKeepTheRest : Type 0 where
-  pub inits : (w : World) (caller : Caller) (r : InitProducerIdRequest) (id : List ℕ) → r.transactional_id ≡ Some id → KeepsOtherIds w id (init_producer_id_outcome w caller r)
-  pub adds : (w : World) (caller : Caller) (r : AddPartitionsToTxnRequest) → KeepsOtherIds w r.transactional_id (add_partitions_outcome w caller r)
-  pub ends : (w : World) (caller : Caller) (r : EndTxnRequest) → KeepsOtherIds w (ending_id r) (end_txn_outcome w caller r)
+  pub inits : (w : World) (caller : Caller) (r : InitProducerIdRequest) (id : List ℕ)
+      → r.transactional_id ≡ Some id → KeepsOtherIds w id (init_producer_id_outcome w caller r)
+  pub adds : (w : World) (caller : Caller) (r : AddPartitionsToTxnRequest)
+      → KeepsOtherIds w r.transactional_id (add_partitions_outcome w caller r)
+  pub ends : (w : World) (caller : Caller) (r : EndTxnRequest)
+      → KeepsOtherIds w (ending_id r) (end_txn_outcome w caller r)
   -- and where writing with the id isn't granted, nothing changes
-  pub refused_end : (w : World) (caller : Caller) (q : EndTxnRequest) (r : Refusal) → part_refusal (rules_of w) (end_questions caller q) ≡ Some r → IsRefusedWhole w r (end_txn_outcome w caller q)
-  pub refused_add : (w : World) (caller : Caller) (q : AddPartitionsToTxnRequest) (r : Refusal) → part_refusal (rules_of w) (id_question caller q.transactional_id ∷ []) ≡ Some r → (add_partitions_outcome w caller q).world ≡ w
+  pub refused_end : (w : World) (caller : Caller) (q : EndTxnRequest) (r : Refusal)
+      → part_refusal (rules_of w) (end_questions caller q) ≡ Some r
+      → IsRefusedWhole w r (end_txn_outcome w caller q)
+  pub refused_add : (w : World) (caller : Caller) (q : AddPartitionsToTxnRequest) (r : Refusal)
+      → part_refusal (rules_of w) (id_question caller q.transactional_id ∷ []) ≡ Some r
+      → (add_partitions_outcome w caller q).world ≡ w

@@ -17,7 +17,8 @@ abbrev pub begin_with : List ℕ → List (List ℕ) → Bool
 begin_with name [] = false
 begin_with name (word ∷ rest) = bytes_eq word name
 
--- the words begin with the name of a command, no step of their parse fails, and its options are those that clap reads
+-- the words begin with the name of a command, no step of their parse fails, and its options are
+-- those that clap reads
 pub record Gives (name : List ℕ) (words : List (List ℕ)) (options : List Row) : Type 0 where
   pub begins : begin_with name (drop 1 words) ≡ true
   pub taken : fault_of command_line words ≡ []
@@ -39,8 +40,10 @@ pub record AsksToShow (words : List (List ℕ)) (showing : Showing) : Type 0 whe
 
 -- the job that the words ask for
 abbrev pub IsAsked : List (List ℕ) → Job → Type 0
-IsAsked words (Replay file) = file_of (codes "replay") words ≡ Some (option_map (λ file. file.now) file)
-IsAsked words (Check file) = file_of (codes "check") words ≡ Some (option_map (λ file. file.now) file)
+IsAsked words (Replay file) =
+    file_of (codes "replay") words ≡ Some (option_map (λ file. file.now) file)
+IsAsked words (Check file) =
+    file_of (codes "check") words ≡ Some (option_map (λ file. file.now) file)
 IsAsked words (Serve serving) = AsksToServe words serving
 IsAsked words (Show showing) = AsksToShow words showing
 

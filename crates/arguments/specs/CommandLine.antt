@@ -4,9 +4,11 @@ use Rattle.clap.specs.Walk.{Rule}
 use Rattle.clap.specs.declared.builder.action.ArgAction.TheVariants.{SetTrue}
 use Rattle.clap.specs.Simple.{App, Shape, new_app, new_rule, on_top, with_rule, with_subcommand}
 
--- the program has a version; with no word but its own name it answers with help; a subcommand is wanted
+-- the program has a version; with no word but its own name it answers with help; a subcommand is
+-- wanted
 abbrev pub wanting_a_job : Shape → Shape
-wanting_a_job s = record s { has_version = true; arg_required_else_help = true; subcommand_required = true }
+wanting_a_job s =
+    record s { has_version = true; arg_required_else_help = true; subcommand_required = true }
 
 unfoldable pub program : App
 program = on_top wanting_a_job (new_app (codes "kbroker"))
@@ -17,9 +19,11 @@ file_rule = record (new_rule (codes "file")) { value_names = 1 }
 
 -- an option `--NAME VALUE`
 abbrev pub option_rule : List ℕ → Bool → Rule
-option_rule name must = record (new_rule name) { long = Some name; value_names = 1; required = must }
+option_rule name must =
+    record (new_rule name) { long = Some name; value_names = 1; required = must }
 
--- the option of the address to listen on, which `--port` names too: so it is told what is wrong with a port alone
+-- the option of the address to listen on, which `--port` names too: so it is told what is wrong
+-- with a port alone
 abbrev pub listen_rule : Rule
 listen_rule = record (option_rule (codes "listen") true) { aliases = codes "port" ∷ [] }
 
@@ -37,35 +41,45 @@ with_rules a first second third = with_rule (with_rule (with_rule a first) secon
 
 -- the options of `serve` that say where, and how many are served
 abbrev pub with_serve_numbers : App → App
-with_serve_numbers a = with_rules a listen_rule (option_rule (codes "workers") false) (option_rule (codes "connections") false)
+with_serve_numbers a =
+    with_rules a listen_rule (option_rule (codes "workers") false)
+    (option_rule (codes "connections") false)
 
 -- those that change nothing where they aren't given
 abbrev pub with_serve_switches : App → App
-with_serve_switches a = with_two_rules a (option_rule (codes "for") false) (option_rule (codes "idle") false)
+with_serve_switches a =
+    with_two_rules a (option_rule (codes "for") false) (option_rule (codes "idle") false)
 
 -- those of what is told, and of the time before each line of it
 abbrev pub with_serve_reports : App → App
-with_serve_reports a = with_two_rules a (option_rule (codes "audit") false) (flag_rule (codes "log-times"))
+with_serve_reports a =
+    with_two_rules a (option_rule (codes "audit") false) (flag_rule (codes "log-times"))
 
 -- those of the time that a login has, and a frame
 abbrev pub with_serve_deadlines : App → App
-with_serve_deadlines a = with_two_rules a (option_rule (codes "login-within") false) (option_rule (codes "frame-within") false)
+with_serve_deadlines a =
+    with_two_rules a (option_rule (codes "login-within") false)
+    (option_rule (codes "frame-within") false)
 
 -- those of connections that aren't counted, and of those of one host
 abbrev pub with_serve_shares : App → App
-with_serve_shares a = with_two_rules a (flag_rule (codes "endless")) (option_rule (codes "per-host") false)
+with_serve_shares a =
+    with_two_rules a (flag_rule (codes "endless")) (option_rule (codes "per-host") false)
 
 -- those of how fast each user may ask
 abbrev pub with_serve_rates : App → App
-with_serve_rates a = with_two_rules a (option_rule (codes "rate") false) (option_rule (codes "rate-bytes") false)
+with_serve_rates a =
+    with_two_rules a (option_rule (codes "rate") false) (option_rule (codes "rate-bytes") false)
 
 -- those of a broker that is steered
 abbrev pub with_serve_steering : App → App
-with_serve_steering a = with_two_rules a (option_rule (codes "settings") false) (flag_rule (codes "control"))
+with_serve_steering a =
+    with_two_rules a (option_rule (codes "settings") false) (flag_rule (codes "control"))
 
 -- those of how a server stops
 abbrev pub with_serve_ending : App → App
-with_serve_ending a = with_two_rules a (option_rule (codes "grace") false) (flag_rule (codes "stop-with-input"))
+with_serve_ending a =
+    with_two_rules a (option_rule (codes "grace") false) (flag_rule (codes "stop-with-input"))
 
 -- those for clients that look for other versions
 abbrev pub with_serve_clients : App → App
@@ -73,7 +87,14 @@ with_serve_clients a = with_rule a (flag_rule (codes "librdkafka"))
 
 -- the options of `serve`
 abbrev pub with_serve_options : App → App
-with_serve_options a = with_serve_clients (with_serve_ending (with_serve_steering (with_serve_rates (with_serve_shares (with_serve_deadlines (with_serve_reports (with_serve_switches (with_serve_numbers a))))))))
+with_serve_options a =
+    with_serve_clients
+    (with_serve_ending
+    (with_serve_steering
+    (with_serve_rates
+    (with_serve_shares
+    (with_serve_deadlines
+    (with_serve_reports (with_serve_switches (with_serve_numbers a))))))))
 
 abbrev pub serve_shape : Shape
 serve_shape = (with_serve_options (new_app (codes "serve"))).top
@@ -95,4 +116,10 @@ show_shape = show_app.top
 -- the program with a subcommand for each job
 unfoldable pub command_line : App
 unfolding program
-command_line = with_subcommand (with_subcommand (with_subcommand (with_subcommand program (reading_shape (codes "replay"))) (reading_shape (codes "check"))) serve_shape) show_shape
+command_line =
+    with_subcommand
+    (with_subcommand
+    (with_subcommand (with_subcommand program (reading_shape (codes "replay")))
+    (reading_shape (codes "check")))
+    serve_shape)
+    show_shape

@@ -7,7 +7,9 @@ use Rattle.arguments.specs.declared.serving.Serving.{Serving}
 
 -- a text writes a number in decimal digits, a plus before them or not
 abbrev pub Writes : List ℕ → ℕ → Type 0
-Writes text number = IsNumeral 10 (without_leading_plus text) × (number ≡ digits_value 10 (without_leading_plus text))
+Writes text number =
+    IsNumeral 10 (without_leading_plus text)
+    × (number ≡ digits_value 10 (without_leading_plus text))
 
 -- a port is a number of at most 65,535
 abbrev pub IsPort : List ℕ → Type 0
@@ -24,16 +26,19 @@ pub record IsAddress (text : List ℕ) : Type 0 where
 abbrev pub IsIn : ℕ → ℕ → Type 0
 IsIn most number = (1 ≤ number) × (number ≤ most)
 
--- lines of standard input may steer a broker whose settings come from a file, and which tells refusals where it is asked
+-- lines of standard input may steer a broker whose settings come from a file, and which tells
+-- refusals where it is asked
 abbrev pub MaySteer : Bool → Bool → Type 0
 MaySteer has_file audit = (has_file ≡ true) × (audit ≡ false)
 
--- the end of standard input may stop a broker whose settings come from a file, and which no lines steer
+-- the end of standard input may stop a broker whose settings come from a file, and which no lines
+-- steer
 abbrev pub MayStop : Bool → Bool → Type 0
 MayStop has_file control = (has_file ≡ true) × (control ≡ false)
 
--- an address with a port, at most 64 connections at once, 1,000,000 in all and of one host, times of at most 1,000,000 seconds, and
--- of each user in a second at most 1,000,000,000 requests and 1,000,000,000,000 bytes
+-- an address with a port, at most 64 connections at once, 1,000,000 in all and of one host, times
+-- of at most 1,000,000 seconds, and of each user in a second at most 1,000,000,000 requests and
+-- 1,000,000,000,000 bytes
 pub record IsWithin (s : Serving) : Type 0 where
   pub listen : IsAddress s.listen.now
   pub workers : IsIn 64 s.workers

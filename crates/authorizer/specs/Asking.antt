@@ -48,7 +48,8 @@ abbrev pub part_refusal : Rules → List Question → Option Refusal
 part_refusal rules [] = None
 part_refusal rules (q ∷ qs) = first_of (question_refusal rules q) (part_refusal rules qs)
 
--- what is spent for the questions of a part, by its refusal if it is refused: a permit for each of them, or none at all
+-- what is spent for the questions of a part, by its refusal if it is refused: a permit for each of
+-- them, or none at all
 abbrev pub paid_by : Option Refusal → List Question → List Question
 paid_by None qs = qs
 paid_by (Some r) qs = []

@@ -22,7 +22,10 @@ IsContentsOf table es = (e : Numbered) → lookup (says_same e) table ≡ number
 
 -- the table no longer has what these say
 abbrev pub HasForgotten : List (Numbered × ℕ) → List (Numbered × ℕ) → List Numbered → Type 0
-HasForgotten old new these = (e : Numbered) → lookup (says_same e) new ≡ (if list_any (λ x. says_same x e) these then None else lookup (says_same e) old)
+HasForgotten old new these =
+    (e : Numbered)
+    → lookup (says_same e) new
+    ≡ (if list_any (λ x. says_same x e) these then None else lookup (says_same e) old)
 
 pub says_same_laws : IsEquivalence says_same
 says_same_laws =
@@ -37,16 +40,27 @@ says_same_laws =
 -- what is hashed of it: the words by their numbers, and the texts
 abbrev pub hash_writes_of : Numbered → HashWrites
 hash_writes_of e =
-    fed.i8 (kind_code e.binding.kind) ++ (fed.str e.binding.name ++ (fed.i8 (pattern_code e.binding.pattern)
-    ++ (fed.str e.binding.principal ++ (fed.str e.binding.host ++ (fed.i8 (operation_code e.binding.operation) ++ fed.i8 (permission_code e.binding.permission))))))
+    fed.i8 (kind_code e.binding.kind)
+    ++ (fed.str e.binding.name ++ (fed.i8 (pattern_code e.binding.pattern)
+    ++ (fed.str e.binding.principal
+    ++ (fed.str e.binding.host
+    ++ (fed.i8 (operation_code e.binding.operation)
+    ++ fed.i8 (permission_code e.binding.permission))))))
 
 pub said_alike : Alike says_same hash_writes_of
 unfolding kind_code pattern_code operation_code permission_code
 said_alike =
-    and-Alike (on_Alike (λ (e : Numbered). kind_number e.binding.kind) (same_Alike (λ (n : ℕ). fed.i8 (pos n)) unsigned_Decides))
+    and-Alike
+    (on_Alike (λ (e : Numbered). kind_number e.binding.kind)
+    (same_Alike (λ (n : ℕ). fed.i8 (pos n)) unsigned_Decides))
     (and-Alike (on_Alike (λ (e : Numbered). e.binding.name) (same_Alike fed.str bytes_decides))
-    (and-Alike (on_Alike (λ (e : Numbered). pattern_number e.binding.pattern) (same_Alike (λ (n : ℕ). fed.i8 (pos n)) unsigned_Decides))
+    (and-Alike
+    (on_Alike (λ (e : Numbered). pattern_number e.binding.pattern)
+    (same_Alike (λ (n : ℕ). fed.i8 (pos n)) unsigned_Decides))
     (and-Alike (on_Alike (λ (e : Numbered). e.binding.principal) (same_Alike fed.str bytes_decides))
     (and-Alike (on_Alike (λ (e : Numbered). e.binding.host) (same_Alike fed.str bytes_decides))
-    (and-Alike (on_Alike (λ (e : Numbered). operation_number e.binding.operation) (same_Alike (λ (n : ℕ). fed.i8 (pos n)) unsigned_Decides))
-    (on_Alike (λ (e : Numbered). permission_number e.binding.permission) (same_Alike (λ (n : ℕ). fed.i8 (pos n)) unsigned_Decides)))))))
+    (and-Alike
+    (on_Alike (λ (e : Numbered). operation_number e.binding.operation)
+    (same_Alike (λ (n : ℕ). fed.i8 (pos n)) unsigned_Decides))
+    (on_Alike (λ (e : Numbered). permission_number e.binding.permission)
+    (same_Alike (λ (n : ℕ). fed.i8 (pos n)) unsigned_Decides)))))))

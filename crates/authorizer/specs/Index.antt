@@ -27,8 +27,13 @@ nonempty [] = None
 nonempty (x ∷ xs) = Some (x ∷ xs)
 
 -- the table has one binding more, at the end of those of the name
-abbrev pub HasMore : List (List ℕ × List Numbered) → List (List ℕ × List Numbered) → List ℕ → Numbered → Type 0
-HasMore old new name entry = (other : List ℕ) → named_bindings new other ≡ (if bytes_eq name other then Some (bindings_under old name ++ entry ∷ []) else named_bindings old other)
+abbrev pub HasMore : List (List ℕ × List Numbered) → List (List ℕ × List Numbered) → List ℕ
+    → Numbered → Type 0
+HasMore old new name entry =
+    (other : List ℕ)
+    → named_bindings new other
+    ≡ (if bytes_eq name other then Some (bindings_under old name ++ entry ∷ [])
+    else named_bindings old other)
 
 -- under each name the table has what it had
 abbrev pub HasSame : List (List ℕ × List Numbered) → List (List ℕ × List Numbered) → Type 0
@@ -36,8 +41,20 @@ HasSame old new = (other : List ℕ) → named_bindings new other ≡ named_bind
 
 -- under each name the table has what the filter doesn't pick, and no name of which nothing is left
 abbrev pub HasLess : List (List ℕ × List Numbered) → List (List ℕ × List Numbered) → Filter → Type 0
-HasLess old new f = (other : List ℕ) → named_bindings new other ≡ option_and_then (λ held. nonempty (filter (is_not_matched f) held)) (named_bindings old other)
+HasLess old new f =
+    (other : List ℕ)
+    → named_bindings new other
+    ≡ option_and_then (λ held. nonempty (filter (is_not_matched f) held))
+    (named_bindings old other)
 
--- under this name the table has what the filter doesn't pick, if that is anything, and under each other what it had
-abbrev pub HasLessAt : List (List ℕ × List Numbered) → List (List ℕ × List Numbered) → List ℕ → Filter → Type 0
-HasLessAt old new name f = (other : List ℕ) → named_bindings new other ≡ (if bytes_eq name other then option_and_then (λ held. nonempty (filter (is_not_matched f) held)) (named_bindings old other) else named_bindings old other)
+-- under this name the table has what the filter doesn't pick, if that is anything, and under each
+-- other what it had
+abbrev pub HasLessAt : List (List ℕ × List Numbered) → List (List ℕ × List Numbered) → List ℕ
+    → Filter → Type 0
+HasLessAt old new name f =
+    (other : List ℕ)
+    → named_bindings new other
+    ≡ (if bytes_eq name other
+    then option_and_then (λ held. nonempty (filter (is_not_matched f) held))
+    (named_bindings old other)
+    else named_bindings old other)

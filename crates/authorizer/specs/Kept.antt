@@ -13,9 +13,10 @@ use Rattle.authorizer.specs.declared.index.Index.{Index}
 abbrev pub book_of : List (ℕ × Numbered) → ℕ → BookValue
 book_of table next = record { entries = values_of table; next = next }
 
--- The table is that of a book's bindings under their numbers, the contents tell the number of each, and the index is that
--- of them; each has a name.
-pub record IsKept (index : Index) (told : List (Numbered × ℕ)) (table : List (ℕ × Numbered)) (next : ℕ) : Type 0 where
+-- The table is that of a book's bindings under their numbers, the contents tell the number of each,
+-- and the index is that of them; each has a name.
+pub record IsKept (index : Index) (told : List (Numbered × ℕ)) (table : List (ℕ × Numbered))
+    (next : ℕ) : Type 0 where
   pub book : IsBook (book_of table next)
   pub numbers : table ≡ under_numbers (values_of table)
   pub contents : IsContentsOf told (values_of table)

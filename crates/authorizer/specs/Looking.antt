@@ -17,7 +17,10 @@ use Rattle.authorizer.specs.declared.looking.Finding.{Finding}
 
 -- the binding has this kind, pattern and name
 abbrev pub is_at : Kind → Pattern → List ℕ → Numbered → Bool
-is_at kind pattern name e = (kind_number e.binding.kind == kind_number kind) && ((pattern_number e.binding.pattern == pattern_number pattern) && bytes_eq e.binding.name name)
+is_at kind pattern name e =
+    (kind_number e.binding.kind == kind_number kind)
+    && ((pattern_number e.binding.pattern == pattern_number pattern)
+    && bytes_eq e.binding.name name)
 
 -- the bindings of this kind, pattern and name, in creation order
 abbrev pub bindings_about : Kind → Pattern → List ℕ → List Numbered → List Numbered
@@ -25,7 +28,8 @@ bindings_about kind pattern name es = filter (is_at kind pattern name) es
 
 -- the table has each name's bindings, and no name without any
 abbrev pub IsTableOf : List (List ℕ × List Numbered) → Kind → Pattern → List Numbered → Type 0
-IsTableOf table kind pattern es = (name : List ℕ) → named_bindings table name ≡ nonempty (bindings_about kind pattern name es)
+IsTableOf table kind pattern es =
+    (name : List ℕ) → named_bindings table name ≡ nonempty (bindings_about kind pattern name es)
 
 pub record IsKindIndexed (k : KindIndex) (kind : Kind) (es : List Numbered) : Type 0 where
   pub literal : IsTableOf k.literal kind Literal es
@@ -48,7 +52,8 @@ kind_index index Group = index.groups
 kind_index index Cluster = index.cluster
 kind_index index TransactionalId = index.ids
 
--- the binding's name is a text, and not the empty one where it is a prefix: that would be looked up for every name
+-- the binding's name is a text, and not the empty one where it is a prefix: that would be looked up
+-- for every name
 pub record IsNamed (e : Numbered) : Type 0 where
   pub text : IsUtf8 e.binding.name
   pub some : e.binding.pattern ≡ Prefixed → 0 < length e.binding.name
@@ -64,8 +69,12 @@ min_some None b = b
 min_some (Some a) b = Some (lesser_of a b)
 
 abbrev pub combined_finding : Finding → Finding → Finding
-combined_finding a b = record { denied = min_some a.denied b.denied; allowed = a.allowed || b.allowed }
+combined_finding a b =
+    record { denied = min_some a.denied b.denied; allowed = a.allowed || b.allowed }
 
 -- a prefixed binding whose name begins the name, and is longer than k bytes
 abbrev pub is_longer : Kind → List ℕ → ℕ → Numbered → Bool
-is_longer kind name k e = (kind_number e.binding.kind == kind_number kind) && ((pattern_number e.binding.pattern == pattern_number Prefixed) && (starts_with nat_eq name e.binding.name && nat_lt k (length e.binding.name)))
+is_longer kind name k e =
+    (kind_number e.binding.kind == kind_number kind)
+    && ((pattern_number e.binding.pattern == pattern_number Prefixed)
+    && (starts_with nat_eq name e.binding.name && nat_lt k (length e.binding.name)))

@@ -13,7 +13,8 @@ pub record AreBothGood (policy : PolicyValue) (permits : TwoPermits) : Type 0 wh
   pub second : IsGood policy permits.second
 
 -- they are granted for these questions
-pub record AreBothGranted (policy : PolicyValue) (one two : Question) (permits : TwoPermits) : Type 0 where
+pub record AreBothGranted (policy : PolicyValue) (one two : Question) (permits : TwoPermits)
+    : Type 0 where
   pub first : IsGranted policy one permits.first
   pub second : IsGranted policy two permits.second
 
@@ -24,7 +25,8 @@ pub record AreThreeGood (policy : PolicyValue) (permits : ThreePermits) : Type 0
   pub third : IsGood policy permits.third
 
 -- they are granted for these questions
-pub record AreThreeGranted (policy : PolicyValue) (one two three : Question) (permits : ThreePermits) : Type 0 where
+pub record AreThreeGranted (policy : PolicyValue) (one two three : Question)
+    (permits : ThreePermits) : Type 0 where
   pub first : IsGranted policy one permits.first
   pub second : IsGranted policy two permits.second
   pub third : IsGranted policy three permits.third
@@ -41,6 +43,7 @@ IsGrantedIfGiven policy (Some question) (Some permit) = IsGranted policy questio
 IsGrantedIfGiven policy _ _ = ⊥
 
 -- the permit of a question that may be absent, and that of another
-pub record AreGivenGranted (policy : PolicyValue) (one : Option Question) (two : Question) (permits : GivenPermits) : Type 0 where
+pub record AreGivenGranted (policy : PolicyValue) (one : Option Question) (two : Question)
+    (permits : GivenPermits) : Type 0 where
   pub given : IsGrantedIfGiven policy one permits.given
   pub last : IsGranted policy two permits.last

@@ -34,10 +34,13 @@ without_numbers table (n ∷ ns) = without_numbers (remove_entry (is_key (nat_cm
 abbrev pub picks : Filter → Numbered → Bool
 picks f e = matches f e.binding
 
--- where those of the bindings stood in the table that pass some test, there stand now also those that are looked at and
--- that the filter picks
-abbrev pub HasPicked : List (ℕ × Numbered) → List (ℕ × Numbered) → Filter → List Numbered → (Numbered → Bool) → Type 0
-HasPicked old new f es looked = (test : Numbered → Bool) → old ≡ under_numbers (filter test es) → new ≡ under_numbers (filter (λ e. test e || (looked e && picks f e)) es)
+-- where those of the bindings stood in the table that pass some test, there stand now also those
+-- that are looked at and that the filter picks
+abbrev pub HasPicked : List (ℕ × Numbered) → List (ℕ × Numbered) → Filter → List Numbered
+    → (Numbered → Bool) → Type 0
+HasPicked old new f es looked =
+    (test : Numbered → Bool) → old ≡ under_numbers (filter test es)
+    → new ≡ under_numbers (filter (λ e. test e || (looked e && picks f e)) es)
 
 -- what is left where of those that are looked at the filter's are taken out
 abbrev pub is_left : Filter → (Numbered → Bool) → Numbered → Bool
@@ -53,18 +56,20 @@ stands_at acl_key e = is_at acl_key.kind acl_key.pattern acl_key.name.now e
 abbrev pub stands_in : List AclKey → Numbered → Bool
 stands_in acl_keys e = list_any (λ acl_key. stands_at acl_key e) acl_keys
 
--- where those of a kind stand that such a pattern with this name picks: under the name, and for MATCH also under `*` and
--- under the name's beginnings
+-- where those of a kind stand that such a pattern with this name picks: under the name, and for
+-- MATCH also under `*` and under the name's beginnings
 abbrev pub stands_under : FilterPattern → Kind → List ℕ → Numbered → Bool
 stands_under wanted.Any kind name e = is_at kind Literal name e || is_at kind Prefixed name e
-stands_under wanted.Match kind name e = (is_at kind Literal name e || is_at kind Literal star e) || is_longer kind name 0 e
+stands_under wanted.Match kind name e =
+    (is_at kind Literal name e || is_at kind Literal star e) || is_longer kind name 0 e
 stands_under wanted.Literal kind name e = is_at kind Literal name e
 stands_under wanted.Prefixed kind name e = is_at kind Prefixed name e
 
 -- each binding that the filter picks stands at one of the places, where there are any
 abbrev pub AreAllAt : Option (List AclKey) → Filter → Type 0
 AreAllAt None f = Unit {0}
-AreAllAt (Some acl_keys) f = (e : Numbered) → IsNamed e → picks f e ≡ true → stands_in acl_keys e ≡ true
+AreAllAt (Some acl_keys) f =
+    (e : Numbered) → IsNamed e → picks f e ≡ true → stands_in acl_keys e ≡ true
 
 -- it is of this kind
 abbrev pub is_of_kind : Kind → Numbered → Bool

@@ -1,5 +1,6 @@
--- A policy: the book of bindings, the super users, and how often the book was changed. A permit: a question that it
--- granted, with the number of changes at that moment. (Kafka documentation, 'Authorization and ACLs': super.users.)
+-- A policy: the book of bindings, the super users, and how often the book was changed. A permit: a
+-- question that it granted, with the number of changes at that moment. (Kafka documentation,
+-- 'Authorization and ACLs': super.users.)
 use Rattle.std.specs.Prelude.{◌≡◌, ℕ, ◌+◌, ◌*◌, ◌<◌, ◌≤◌, Bool, List, length, nat_eq, is_some, None, if◌then◌else◌}
 use Rattle.std.specs.List.{list_any}
 use Rattle.std.specs.Str.{bytes_eq}
@@ -17,8 +18,8 @@ pub record PolicyValue : Type 0 where
   pub supers : List (List ℕ)
   pub edit : ℕ
 
--- Each change adds a binding that was not there, or takes out at least one that was added before. So there are fewer
--- changes than creation numbers, counted twice.
+-- Each change adds a binding that was not there, or takes out at least one that was added before.
+-- So there are fewer changes than creation numbers, counted twice.
 abbrev pub IsCounted : ℕ → BookValue → Type 0
 IsCounted edit book = edit + length book.entries + 2 ≤ 2 * book.next
 
@@ -40,19 +41,24 @@ policy_verdict policy q = verdict policy.book policy.supers q
 
 -- the edit number after adding the binding: it rises exactly where the book changes
 abbrev pub edit_after_adding : PolicyValue → Binding → ℕ
-edit_after_adding policy b = if is_some (number_of policy.book.entries b) then policy.edit else policy.edit + 1
+edit_after_adding policy b =
+    if is_some (number_of policy.book.entries b) then policy.edit else policy.edit + 1
 
 -- the policy with the binding added
 abbrev pub policy_added : PolicyValue → Binding → PolicyValue
-policy_added policy b = record policy { book = with_binding policy.book b; edit = edit_after_adding policy b }
+policy_added policy b =
+    record policy { book = with_binding policy.book b; edit = edit_after_adding policy b }
 
 -- the edit number after taking out what the filter picks: it rises exactly where that is anything
 abbrev pub edit_after_removing : PolicyValue → Filter → ℕ
-edit_after_removing policy f = if nat_eq (length (matching_bindings policy.book.entries f)) 0 then policy.edit else policy.edit + 1
+edit_after_removing policy f =
+    if nat_eq (length (matching_bindings policy.book.entries f)) 0 then policy.edit
+    else policy.edit + 1
 
 -- the policy without the bindings that the filter picks
 abbrev pub policy_removed : PolicyValue → Filter → PolicyValue
-policy_removed policy f = record policy { book = without_matching policy.book f; edit = edit_after_removing policy f }
+policy_removed policy f =
+    record policy { book = without_matching policy.book f; edit = edit_after_removing policy f }
 
 -- ---- permits
 
@@ -67,11 +73,15 @@ pub record IsGood (policy : PolicyValue) (permit : PermitValue) : Type 0 where
   pub granted : policy_verdict policy permit.question ≡ Yes
 
 -- the permit is good under this policy, and for this question
-pub record IsGranted (policy : PolicyValue) (question : Question) (permit : PermitValue) : Type 0 where
+pub record IsGranted (policy : PolicyValue) (question : Question) (permit : PermitValue)
+    : Type 0 where
   pub good : IsGood policy permit
   pub asked : permit.question ≡ question
 
 -- no permit of before a change of the book is good after it
 pub record PermitEndsWithEdit : Type 0 where
-  pub added : (policy : PolicyValue) (b : Binding) (permit : PermitValue) → IsGood policy permit → number_of policy.book.entries b ≡ None → ¬ IsGood (policy_added policy b) permit
-  pub taken_out : (policy : PolicyValue) (f : Filter) (permit : PermitValue) → IsGood policy permit → 0 < length (matching_bindings policy.book.entries f) → ¬ IsGood (policy_removed policy f) permit
+  pub added : (policy : PolicyValue) (b : Binding) (permit : PermitValue) → IsGood policy permit
+      → number_of policy.book.entries b ≡ None → ¬ IsGood (policy_added policy b) permit
+  pub taken_out : (policy : PolicyValue) (f : Filter) (permit : PermitValue) → IsGood policy permit
+      → 0 < length (matching_bindings policy.book.entries f)
+      → ¬ IsGood (policy_removed policy f) permit

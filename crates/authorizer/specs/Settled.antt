@@ -1,4 +1,5 @@
--- A question that all parts of a request ask: the policy is asked once, and each part has its answer from that.
+-- A question that all parts of a request ask: the policy is asked once, and each part has its
+-- answer from that.
 use Rattle.std.specs.Prelude.{◌≡◌, ℕ, Option, None, Some}
 use Rattle.acl_binding.specs.declared.question.Question.{Question}
 use Rattle.acl_binding.specs.declared.question.Verdict.{Verdict}
@@ -11,7 +12,8 @@ pub record SettledValue : Type 0 where
   pub verdict : Verdict
 
 abbrev pub settled_value : PolicyValue → Question → SettledValue
-settled_value policy q = record { edit = policy.edit; question = q; verdict = policy_verdict policy q }
+settled_value policy q =
+    record { edit = policy.edit; question = q; verdict = policy_verdict policy q }
 
 -- this policy said so
 abbrev pub IsSettled : PolicyValue → SettledValue → Type 0

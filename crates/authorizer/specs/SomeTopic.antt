@@ -1,4 +1,5 @@
--- Whether a caller may write to some topic, by relations (KIP-679): what `AnyTopic` decides, in words of its own.
+-- Whether a caller may write to some topic, by relations (KIP-679): what `AnyTopic` decides, in
+-- words of its own.
 use Rattle.std.specs.Prelude.{◌≡◌, ◌⊎◌, ◌↔◌, true, ℕ, List, [], ◌∷◌, ◌++◌, codes}
 use Rattle.acl_binding.specs.declared.words.Kind.TheVariants.{Topic}
 use Rattle.acl_binding.specs.declared.words.Pattern.TheVariants.{Literal, Prefixed}
@@ -27,14 +28,18 @@ TakesName b other =
 abbrev pub LeavesNoName : Binding → Binding → Type 0
 LeavesNoName deny allow = IsForAll deny ⊎ ((IsForAll allow → ⊥) × TakesName deny allow)
 
--- a binding on topics allows the caller to write, and none on topics that denies it leaves that one no name
+-- a binding on topics allows the caller to write, and none on topics that denies it leaves that one
+-- no name
 pub record MayWriteSomeTopic (es : List Numbered) (who host : List ℕ) : Type 0 where
   pub allow : Binding
   pub bound : IsBound es allow
   pub topics : allow.kind ≡ Topic
   pub applies : Applies allow who host
   pub allows : Allows allow Write
-  pub unbarred : (deny : Binding) → IsBound es deny → deny.kind ≡ Topic → Applies deny who host → Denies deny Write → LeavesNoName deny allow → ⊥
+  pub unbarred : (deny : Binding) → IsBound es deny → deny.kind ≡ Topic → Applies deny who host
+      → Denies deny Write → LeavesNoName deny allow → ⊥
 
 abbrev pub SomeTopicIsExact : Type 0
-SomeTopicIsExact = (es : List Numbered) (who host : List ℕ) → (any_topic es who host ≡ true) ↔ MayWriteSomeTopic es who host
+SomeTopicIsExact =
+    (es : List Numbered) (who host : List ℕ)
+    → (any_topic es who host ≡ true) ↔ MayWriteSomeTopic es who host

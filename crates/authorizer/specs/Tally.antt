@@ -11,7 +11,9 @@ abbrev pub count_after : ℕ → List Question → ℕ
 count_after n [] = n
 count_after n (q ∷ qs) = count_after (one_more n) qs
 
--- after parts that ask these questions each: for one that is granted each of its questions counts, and for another none
+-- after parts that ask these questions each: for one that is granted each of its questions counts,
+-- and for another none
 abbrev pub count_after_parts : Rules → ℕ → List (List Question) → ℕ
 count_after_parts rules n [] = n
-count_after_parts rules n (qs ∷ parts) = count_after_parts rules (count_after n (part_paid rules qs)) parts
+count_after_parts rules n (qs ∷ parts) =
+    count_after_parts rules (count_after n (part_paid rules qs)) parts

@@ -1,4 +1,5 @@
--- What a line of whoever steers a broker asks for: `tick N`, `mark`, `marks`, `audit`, `state` or `end`.
+-- What a line of whoever steers a broker asks for: `tick N`, `mark`, `marks`, `audit`, `state` or
+-- `end`.
 use Rattle.std.specs.Prelude.{ℕ, if◌then◌else◌, List, codes, Option, Some, None, option_map, option_and_then}
 use Rattle.std.specs.Str.{bytes_eq}
 use Rattle.commands.specs.Order.{parts_at_blank, number_of, text_of}
@@ -7,7 +8,8 @@ use Rattle.broker_keeping.specs.declared.control_command.ControlCommand.TheVaria
 
 -- a first word, and the moment after its blank
 abbrev pub tick_by : List ℕ × List ℕ → Option ControlCommand
-tick_by parts = if bytes_eq parts.0 (codes "tick") then option_map Tick (number_of parts.1) else None
+tick_by parts =
+    if bytes_eq parts.0 (codes "tick") then option_map Tick (number_of parts.1) else None
 
 abbrev pub command_in : List ℕ → Option ControlCommand
 command_in text =

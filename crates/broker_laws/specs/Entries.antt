@@ -1,5 +1,5 @@
--- What the laws of transactions see of the broker's world: the coordinator, the moment, and of each batch and marker of
--- a log, and of each offset and decision of a group, whose it is.
+-- What the laws of transactions see of the broker's world: the coordinator, the moment, and of each
+-- batch and marker of a log, and of each offset and decision of a group, whose it is.
 use Rattle.std.specs.Prelude.{ℤ, pos, int_lt, List, [], map, Option, Some, None, if◌then◌else◌}
 use Rattle.record_batch.specs.Batch.{BatchData}
 use Rattle.txn_coordinator.specs.declared.producer_id.ProducerIdAndEpoch.{ProducerIdAndEpoch}
@@ -59,4 +59,9 @@ abbrev pub entries_in : World → Target → List Entry
 entries_in w target = entries_at w.topics w.groups target
 
 abbrev pub small_world : World → SmallWorld
-small_world w = record { coordinator = w.coordinator; entries = λ target. entries_in w target; moment = w.moment }
+small_world w =
+    record {
+      coordinator = w.coordinator;
+      entries = λ target. entries_in w target;
+      moment = w.moment;
+    }

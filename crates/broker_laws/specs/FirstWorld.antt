@@ -24,7 +24,8 @@ abbrev pub AreNumberedFrom : ℕ → List Numbered → Type 0
 AreNumberedFrom n [] = Unit {0}
 AreNumberedFrom n (e ∷ es) = (e.number ≡ n) × AreNumberedFrom (n + 1) es
 
--- all bindings of the settings and no other, each once, numbered from 1; where they are all different, in their order
+-- all bindings of the settings and no other, each once, numbered from 1; where they are all
+-- different, in their order
 pub record AreFirstBindings (acls : List Binding) (es : List Numbered) : Type 0 where
   pub numbered : AreNumberedFrom 1 es
   pub all : (b : Binding) → IsAmong acls b → IsAmong (bindings_of es) b

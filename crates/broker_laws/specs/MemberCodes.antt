@@ -1,6 +1,6 @@
 -- What the calls of members are told, by number (Kafka protocol guide, "Error Codes"): 0 is
--- NONE, 22 ILLEGAL_GENERATION, 23 INCONSISTENT_GROUP_PROTOCOL, 24 INVALID_GROUP_ID, 25 UNKNOWN_MEMBER_ID, 26
--- INVALID_SESSION_TIMEOUT, 81 GROUP_MAX_SIZE_REACHED.
+-- NONE, 22 ILLEGAL_GENERATION, 23 INCONSISTENT_GROUP_PROTOCOL, 24 INVALID_GROUP_ID, 25
+-- UNKNOWN_MEMBER_ID, 26 INVALID_SESSION_TIMEOUT, 81 GROUP_MAX_SIZE_REACHED.
 use Rattle.std.specs.Prelude.{◌≡◌, ◌≢◌, ℕ, ℤ, pos, negsuc, ◌<ℤ◌, ◌≤ℤ◌, List, [], Option, Some, None}
 use Rattle.acl_binding.specs.declared.question.Caller.{Caller}
 use Rattle.authorizer.specs.Asking.{part_refusal}
@@ -50,10 +50,12 @@ pub record IsJoinNumber (g : Group) (r : JoinGroupRequest) (number : ℤ) : Type
 -- ---- SyncGroup, Heartbeat, LeaveGroup
 
 -- of the member, in its generation
-pub record IsOwnNumber (g : Group) (group : List ℕ) (generation : ℤ) (member : List ℕ) (number : ℤ) : Type 0 where
+pub record IsOwnNumber (g : Group) (group : List ℕ) (generation : ℤ) (member : List ℕ) (number : ℤ)
+    : Type 0 where
   pub no_group : group ≡ [] → number ≡ pos 24
   pub stranger : group ≢ [] → (IsMember g member → ⊥) → number ≡ pos 25
-  pub other_generation : group ≢ [] → IsMember g member → g.generation ≢ generation → number ≡ pos 22
+  pub other_generation : group ≢ [] → IsMember g member → g.generation ≢ generation
+      → number ≡ pos 22
   pub own : group ≢ [] → IsMemberIn g member generation → number ≡ pos 0
 
 -- of the member
@@ -66,11 +68,14 @@ pub record IsLeaveNumber (g : Group) (group member : List ℕ) (number : ℤ) : 
 
 -- what the request asks for is granted
 abbrev pub IsGranted : World → Caller → Request → Type 0
-IsGranted w caller request = part_refusal (rules_of w) (asks_itself (rules_of w) caller request) ≡ None
+IsGranted w caller request =
+    part_refusal (rules_of w) (asks_itself (rules_of w) caller request) ≡ None
 
 -- then the number is by the table, and else 30, GROUP_AUTHORIZATION_FAILED
 abbrev pub ByNumber : World → Caller → Request → (ℤ → Type 0) → ℤ → Type 0
-ByNumber w caller request Table number = (IsGranted w caller request → Table number) × ((IsGranted w caller request → ⊥) → number ≡ pos 30)
+ByNumber w caller request Table number =
+    (IsGranted w caller request → Table number)
+    × ((IsGranted w caller request → ⊥) → number ≡ pos 30)
 
 -- who is told an error is told nothing of the group
 pub record TellsNothing (r : JoinGroupRequest) (reply : JoinGroupReply) : Type 0 where
@@ -80,13 +85,31 @@ pub record TellsNothing (r : JoinGroupRequest) (reply : JoinGroupReply) : Type 0
   pub members : reply.members ≡ []
 
 pub record CallsByNumber (w : World) : Type 0 where
-  pub joins : (caller : Caller) (client : Option (List ℕ)) (r : JoinGroupRequest) (reply : JoinGroupReply) → reply_to w (Ask caller client (JoinGroup r)) ≡ replies.JoinGroup reply
-      → ByNumber w caller (JoinGroup r) (IsJoinNumber (group_in w r.group) r) (number_of reply.error)
-  pub syncs : (caller : Caller) (client : Option (List ℕ)) (r : SyncGroupRequest) (reply : SyncGroupReply) → reply_to w (Ask caller client (SyncGroup r)) ≡ replies.SyncGroup reply
-      → ByNumber w caller (SyncGroup r) (IsOwnNumber (group_in w r.group) r.group r.generation r.member) (number_of reply.error)
-  pub beats : (caller : Caller) (client : Option (List ℕ)) (r : HeartbeatRequest) (reply : HeartbeatReply) → reply_to w (Ask caller client (Heartbeat r)) ≡ replies.Heartbeat reply
-      → ByNumber w caller (Heartbeat r) (IsOwnNumber (group_in w r.group) r.group r.generation r.member) (number_of reply.error)
-  pub leaves : (caller : Caller) (client : Option (List ℕ)) (r : LeaveGroupRequest) (reply : LeaveGroupReply) → reply_to w (Ask caller client (LeaveGroup r)) ≡ replies.LeaveGroup reply
-      → ByNumber w caller (LeaveGroup r) (IsLeaveNumber (group_in w r.group) r.group r.member) (number_of reply.error)
-  pub unjoined : (caller : Caller) (client : Option (List ℕ)) (r : JoinGroupRequest) (reply : JoinGroupReply) → reply_to w (Ask caller client (JoinGroup r)) ≡ replies.JoinGroup reply → number_of reply.error ≢ pos 0 → TellsNothing r reply
-  pub unsynced : (caller : Caller) (client : Option (List ℕ)) (r : SyncGroupRequest) (reply : SyncGroupReply) → reply_to w (Ask caller client (SyncGroup r)) ≡ replies.SyncGroup reply → number_of reply.error ≢ pos 0 → reply.assignment ≡ []
+  pub joins : (caller : Caller) (client : Option (List ℕ)) (r : JoinGroupRequest)
+      (reply : JoinGroupReply)
+      → reply_to w (Ask caller client (JoinGroup r)) ≡ replies.JoinGroup reply
+      → ByNumber w caller (JoinGroup r) (IsJoinNumber (group_in w r.group) r)
+      (number_of reply.error)
+  pub syncs : (caller : Caller) (client : Option (List ℕ)) (r : SyncGroupRequest)
+      (reply : SyncGroupReply)
+      → reply_to w (Ask caller client (SyncGroup r)) ≡ replies.SyncGroup reply
+      → ByNumber w caller (SyncGroup r)
+      (IsOwnNumber (group_in w r.group) r.group r.generation r.member) (number_of reply.error)
+  pub beats : (caller : Caller) (client : Option (List ℕ)) (r : HeartbeatRequest)
+      (reply : HeartbeatReply)
+      → reply_to w (Ask caller client (Heartbeat r)) ≡ replies.Heartbeat reply
+      → ByNumber w caller (Heartbeat r)
+      (IsOwnNumber (group_in w r.group) r.group r.generation r.member) (number_of reply.error)
+  pub leaves : (caller : Caller) (client : Option (List ℕ)) (r : LeaveGroupRequest)
+      (reply : LeaveGroupReply)
+      → reply_to w (Ask caller client (LeaveGroup r)) ≡ replies.LeaveGroup reply
+      → ByNumber w caller (LeaveGroup r) (IsLeaveNumber (group_in w r.group) r.group r.member)
+      (number_of reply.error)
+  pub unjoined : (caller : Caller) (client : Option (List ℕ)) (r : JoinGroupRequest)
+      (reply : JoinGroupReply)
+      → reply_to w (Ask caller client (JoinGroup r)) ≡ replies.JoinGroup reply
+      → number_of reply.error ≢ pos 0 → TellsNothing r reply
+  pub unsynced : (caller : Caller) (client : Option (List ℕ)) (r : SyncGroupRequest)
+      (reply : SyncGroupReply)
+      → reply_to w (Ask caller client (SyncGroup r)) ≡ replies.SyncGroup reply
+      → number_of reply.error ≢ pos 0 → reply.assignment ≡ []

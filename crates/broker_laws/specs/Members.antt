@@ -1,6 +1,6 @@
--- The member of a group, over whole events: a group has at most one (Kafka protocol guide, "JoinGroup API (Key: 11)",
--- "Heartbeat API (Key: 12)", "LeaveGroup API (Key: 13)", "SyncGroup API (Key: 14)"; KIP-62, 'session.timeout.ms'; KIP-389,
--- 'group.max.size', which is one here).
+-- The member of a group, over whole events: a group has at most one (Kafka protocol guide,
+-- "JoinGroup API (Key: 11)", "Heartbeat API (Key: 12)", "LeaveGroup API (Key: 13)", "SyncGroup API
+-- (Key: 14)"; KIP-62, 'session.timeout.ms'; KIP-389, 'group.max.size', which is one here).
 use Rattle.std.specs.Prelude.{◌≡◌, ◌≢◌, ◌⊎◌, ℕ, ◌+◌, ◌<◌, ◌≤◌, ℤ, pos, ◌+ℤ◌, List, [], ◌∷◌, ◌++◌, slice_get, Option, Some, None, codes, decimal}
 use Rattle.acl_binding.specs.declared.question.Caller.{Caller}
 use Rattle.wire_types.specs.ErrorCode.{number_of}
@@ -102,13 +102,15 @@ MayChange w e g = IsJoin w e g ⊎ (IsSync w e g ⊎ (IsBeat w e g ⊎ (IsLeave 
 -- ---- what it makes of the group
 
 -- who names no member comes in where there is none, and is named after the number of events so far
-pub record ComesNew (w : World) (old : Group) (request : JoinGroupRequest) (reply : JoinGroupReply) : Type 0 where
+pub record ComesNew (w : World) (old : Group) (request : JoinGroupRequest) (reply : JoinGroupReply)
+    : Type 0 where
   pub nameless : request.member ≡ []
   pub no_member : old.member ≡ None
   pub named : reply.member ≡ codes "m-" ++ decimal w.events
 
 -- who names a member is that member, and comes back
-pub record ComesBack (old : Group) (request : JoinGroupRequest) (reply : JoinGroupReply) : Type 0 where
+pub record ComesBack (old : Group) (request : JoinGroupRequest) (reply : JoinGroupReply)
+    : Type 0 where
   pub names : request.member ≢ []
   pub was : IsMember old request.member
   pub named : reply.member ≡ request.member
@@ -116,9 +118,11 @@ pub record ComesBack (old : Group) (request : JoinGroupRequest) (reply : JoinGro
 abbrev pub sole_member : List ℕ → List ℕ → List JoinedMember
 sole_member member metadata = record { member = member; metadata = metadata } ∷ []
 
-pub record Joins (w : World) (old new : Group) (request : JoinGroupRequest) (reply : JoinGroupReply) : Type 0 where
+pub record Joins (w : World) (old new : Group) (request : JoinGroupRequest) (reply : JoinGroupReply)
+    : Type 0 where
   pub who : ComesNew w old request reply ⊎ ComesBack old request reply
-  -- whom the answer names is the member, heard of at this moment, with the session timeout that it asked for
+  -- whom the answer names is the member, heard of at this moment, with the session timeout that it
+  -- asked for
   pub member : Member
   pub has : new.member ≡ Some member
   pub named : reply.member ≡ member.id
@@ -130,7 +134,8 @@ pub record Joins (w : World) (old new : Group) (request : JoinGroupRequest) (rep
   pub raised : new.generation ≡ old.generation +ℤ pos 1
   pub told : reply.generation ≡ new.generation
   pub awaited : new.assignment ≡ None
-  -- the member leads, and is told of itself alone, under the protocol that it offers first, of a type that it names
+  -- the member leads, and is told of itself alone, under the protocol that it offers first, of a
+  -- type that it names
   pub leads : reply.leader ≡ reply.member
   pub typed : request.protocol_type ≢ []
   pub protocol : OfferedProtocol
@@ -151,11 +156,14 @@ pub record IsHeardOf (w : World) (old new : Group) : Type 0 where
 -- of the assignments the first for the member, or nothing at all
 abbrev pub IsGiven : List ℕ → List MemberAssignment → List ℕ → Type 0
 IsGiven member [] assignment = assignment ≡ []
-IsGiven member (a ∷ rest) assignment = (a.member ≡ member → assignment ≡ a.assignment) × (a.member ≢ member → IsGiven member rest assignment)
+IsGiven member (a ∷ rest) assignment =
+    (a.member ≡ member → assignment ≡ a.assignment)
+    × (a.member ≢ member → IsGiven member rest assignment)
 
--- it comes from the member in its generation, who is told the assignment that is stored, or where it is awaited the one
--- that it brings
-pub record Syncs (w : World) (old new : Group) (request : SyncGroupRequest) (reply : SyncGroupReply) : Type 0 where
+-- it comes from the member in its generation, who is told the assignment that is stored, or where
+-- it is awaited the one that it brings
+pub record Syncs (w : World) (old new : Group) (request : SyncGroupRequest) (reply : SyncGroupReply)
+    : Type 0 where
   pub by : IsMemberIn old request.member request.generation
   pub heard : IsHeardOf w old new
   pub generation : new.generation ≡ old.generation
@@ -210,12 +218,16 @@ Ends w e g id = IsLeaveOf w e g id ⊎ IsLapseOf w e g id
 
 pub record MembersInShort (w : World) (e : Event) (g : List ℕ) : Type 0 where
   -- each join that is told no error raises the generation by one, and nothing else changes it
-  pub raised : IsJoin w e g → (group_in (step w e) g).generation ≡ (group_in w g).generation +ℤ pos 1
+  pub raised : IsJoin w e g
+      → (group_in (step w e) g).generation ≡ (group_in w g).generation +ℤ pos 1
   pub kept : (IsJoin w e g → ⊥) → (group_in (step w e) g).generation ≡ (group_in w g).generation
   -- nobody comes in but by a join, goes but by a leave or a lapse, or becomes another
-  pub comes : (m : Member) → (group_in w g).member ≡ None → (group_in (step w e) g).member ≡ Some m → IsJoin w e g
-  pub goes : (m : Member) → (group_in w g).member ≡ Some m → (group_in (step w e) g).member ≡ None → Ends w e g m.id
-  pub stays : (m n : Member) → (group_in w g).member ≡ Some m → (group_in (step w e) g).member ≡ Some n → n.id ≡ m.id
+  pub comes : (m : Member) → (group_in w g).member ≡ None → (group_in (step w e) g).member ≡ Some m
+      → IsJoin w e g
+  pub goes : (m : Member) → (group_in w g).member ≡ Some m → (group_in (step w e) g).member ≡ None
+      → Ends w e g m.id
+  pub stays : (m n : Member) → (group_in w g).member ≡ Some m
+      → (group_in (step w e) g).member ≡ Some n → n.id ≡ m.id
 
 -- one of these events ends the membership
 pub record EndsAmong (w : World) (es : List Event) (g id : List ℕ) : Type 0 where
@@ -225,9 +237,12 @@ pub record EndsAmong (w : World) (es : List Event) (g id : List ℕ) : Type 0 wh
   pub parts : es ≡ before ++ event ∷ after
   pub ends : Ends (world_after_events w before) event g id
 
--- between two joins of one group that are told no error and name different members there is a leave or a lapse of the first
+-- between two joins of one group that are told no error and name different members there is a leave
+-- or a lapse of the first
 abbrev pub EndsBetween : World → Type 0
-EndsBetween w = (g : List ℕ) (e f : Event) (between : List Event) (j : IsJoin w e g) (k : IsJoin (world_after_events (step w e) between) f g)
+EndsBetween w =
+    (g : List ℕ) (e f : Event) (between : List Event) (j : IsJoin w e g)
+    (k : IsJoin (world_after_events (step w e) between) f g)
     → j.reply.member ≢ k.reply.member → EndsAmong (step w e) between g j.reply.member
 
 -- so it is before a group begins

@@ -1,5 +1,5 @@
--- The moves that an event is made of: what it changes of the coordinator, of the moment, of the logs and of what groups
--- hold of offsets.
+-- The moves that an event is made of: what it changes of the coordinator, of the moment, of the
+-- logs and of what groups hold of offsets.
 use Rattle.std.specs.Prelude.{ℕ, ◌+◌, ℤ, pos, int_lt, List, [], ◌∷◌, ◌++◌, Option, Some, None, Result, Ok, Err, if◌then◌else◌}
 use Rattle.acl_binding.specs.declared.question.Caller.{Caller}
 use Rattle.authorizer.specs.declared.answer.Refusal.{Refusal}
@@ -57,16 +57,23 @@ unless_refused (Some r) ms = []
 
 -- ---- a walk: the moves of each part that is allowed, in what the parts before it leave
 
-abbrev pub part_moves : {P A W : Type 0} → PartRule P A W → Rules → (W → List ℕ → P → List Move) → W → List ℕ → P → List Move
+abbrev pub part_moves : {P A W : Type 0} → PartRule P A W → Rules → (W → List ℕ → P → List Move) → W
+    → List ℕ → P → List Move
 part_moves api rules made w name p = unless_refused (refusal_of api rules name p) (made w name p)
 
-abbrev pub parts_moves : {P A W : Type 0} → PartRule P A W → Rules → (W → List ℕ → P → List Move) → W → List ℕ → List P → List Move
+abbrev pub parts_moves : {P A W : Type 0} → PartRule P A W → Rules → (W → List ℕ → P → List Move)
+    → W → List ℕ → List P → List Move
 parts_moves api rules made w name [] = []
-parts_moves api rules made w name (p ∷ ps) = part_moves api rules made w name p ++ parts_moves api rules made (part_world api rules w name p) name ps
+parts_moves api rules made w name (p ∷ ps) =
+    part_moves api rules made w name p
+    ++ parts_moves api rules made (part_world api rules w name p) name ps
 
-abbrev pub topics_moves : {P A W : Type 0} → PartRule P A W → Rules → (W → List ℕ → P → List Move) → W → List (Topic P) → List Move
+abbrev pub topics_moves : {P A W : Type 0} → PartRule P A W → Rules → (W → List ℕ → P → List Move)
+    → W → List (Topic P) → List Move
 topics_moves api rules made w [] = []
-topics_moves api rules made w (t ∷ ts) = parts_moves api rules made w t.name t.partitions ++ topics_moves api rules made (parts_world api rules w t.name t.partitions) ts
+topics_moves api rules made w (t ∷ ts) =
+    parts_moves api rules made w t.name t.partitions
+    ++ topics_moves api rules made (parts_world api rules w t.name t.partitions) ts
 
 -- ---- Produce: a move for each batch that is appended
 
@@ -91,14 +98,19 @@ abbrev pub log_moves : Option (List ℕ) → Target → BatchData → Option Log
 log_moves id target b None = []
 log_moves id target b (Some log) = moves_by (judged_by_log log b) (append_moves id target b.header)
 
-abbrev pub batch_moves : Option (List ℕ) → Target → Result BatchData ErrorCode → Option LogValue → List Move
+abbrev pub batch_moves : Option (List ℕ) → Target → Result BatchData ErrorCode → Option LogValue
+    → List Move
 batch_moves id target (Err code) log = []
 batch_moves id target (Ok b) log = log_moves id target b log
 
 -- for a partition, in the topics as they then are
-abbrev pub produced_moves : World → ProduceRequest → List TopicValue → List ℕ → ProducedRecords → List Move
+abbrev pub produced_moves : World → ProduceRequest → List TopicValue → List ℕ → ProducedRecords
+    → List Move
 produced_moves w r topics name p =
-    batch_moves r.transactional_id (partition_at name p.index) (batch_to_append (non_negative w.node.max_batch) w.coordinator r.transactional_id r.acks (partition_at name p.index) p.records) (log_at topics name p.index)
+    batch_moves r.transactional_id (partition_at name p.index)
+    (batch_to_append (non_negative w.node.max_batch) w.coordinator r.transactional_id r.acks
+    (partition_at name p.index) p.records)
+    (log_at topics name p.index)
 
 -- ---- OffsetCommit and TxnOffsetCommit: a move for each offset that is committed or staged
 
@@ -106,16 +118,26 @@ abbrev pub transition_moves : {A : Type 0} → GroupTransition A → List Move �
 transition_moves (Stays code) ms = []
 transition_moves (Puts answer g) ms = ms
 
-abbrev pub commit_moves : Committing → List GroupValue → List ℕ → OffsetToCommit → Option LogValue → List Move
+abbrev pub commit_moves : Committing → List GroupValue → List ℕ → OffsetToCommit → Option LogValue
+    → List Move
 commit_moves c gs name p None = []
-commit_moves c gs name p (Some log) = transition_moves (commit gs c.group c.generation c.member (offset_of name p)) (moves.Plain (Group c.group) ∷ [])
+commit_moves c gs name p (Some log) =
+    transition_moves (commit gs c.group c.generation c.member (offset_of name p))
+    (moves.Plain (Group c.group) ∷ [])
 
 -- for a partition, in the groups as they then are
-abbrev pub committed_moves : World → OffsetCommitRequest → List GroupValue → List ℕ → OffsetToCommit → List Move
-committed_moves w r gs name p = commit_moves (committing_of r) gs name p (log_at w.topics name p.index)
+abbrev pub committed_moves : World → OffsetCommitRequest → List GroupValue → List ℕ → OffsetToCommit
+    → List Move
+committed_moves w r gs name p =
+    commit_moves (committing_of r) gs name p (log_at w.topics name p.index)
 
-abbrev pub staged_moves : World → TxnOffsetCommitRequest → List GroupValue → List ℕ → OffsetToStage → List Move
-staged_moves w r gs name p = transition_moves (stage_transition (staging_refusal w.coordinator (staging_of r)) w.topics (staging_of r) gs name p) (moves.Store r.transactional_id (staging_of r).pair (Group r.group) ∷ [])
+abbrev pub staged_moves : World → TxnOffsetCommitRequest → List GroupValue → List ℕ → OffsetToStage
+    → List Move
+staged_moves w r gs name p =
+    transition_moves
+    (stage_transition (staging_refusal w.coordinator (staging_of r)) w.topics (staging_of r) gs
+    name p)
+    (moves.Store r.transactional_id (staging_of r).pair (Group r.group) ∷ [])
 
 -- ---- the calls of the coordinator
 
@@ -124,17 +146,24 @@ init_id_moves None timeout greatest = moves.Give ∷ []
 init_id_moves (Some id) timeout greatest = moves.Init id timeout greatest ∷ []
 
 abbrev pub init_moves : World → Caller → InitProducerIdRequest → List Move
-init_moves w caller r = unless_refused (part_refusal (rules_of w) (init_questions (rules_of w) caller r.transactional_id)) (init_id_moves r.transactional_id r.timeout w.node.max_txn_timeout)
+init_moves w caller r =
+    unless_refused
+    (part_refusal (rules_of w) (init_questions (rules_of w) caller r.transactional_id))
+    (init_id_moves r.transactional_id r.timeout w.node.max_txn_timeout)
 
 abbrev pub add_moves : World → Caller → AddPartitionsToTxnRequest → List Move
 add_moves w caller r =
     if is_cut caller r.transactional_id w.topics (rules_of w) r.topics then []
-    else moves.AddPartitions r.transactional_id (record { producer = r.producer; epoch = r.epoch }) (partitions_of r.topics) ∷ []
+    else moves.AddPartitions r.transactional_id (record { producer = r.producer; epoch = r.epoch })
+    (partitions_of r.topics)
+    ∷ []
 
 abbrev pub add_group_moves : World → Caller → AddOffsetsToTxnRequest → List Move
 add_group_moves w caller r =
-    unless_refused (part_refusal (rules_of w) (add_offsets_questions caller r.transactional_id r.group))
-    (moves.AddGroup r.transactional_id (record { producer = r.producer; epoch = r.epoch }) r.group ∷ [])
+    unless_refused
+    (part_refusal (rules_of w) (add_offsets_questions caller r.transactional_id r.group))
+    (moves.AddGroup r.transactional_id (record { producer = r.producer; epoch = r.epoch }) r.group
+    ∷ [])
 
 abbrev pub end_moves : World → Caller → EndTxnRequest → List Move
 end_moves w caller r =
@@ -144,11 +173,13 @@ end_moves w caller r =
 -- ---- an event
 
 abbrev pub request_moves : World → Caller → Request → List Move
-request_moves w caller (requests.Produce r) = topics_moves (producing_rule w caller r) (rules_of w) (produced_moves w r) w.topics r.topics
+request_moves w caller (requests.Produce r) =
+    topics_moves (producing_rule w caller r) (rules_of w) (produced_moves w r) w.topics r.topics
 request_moves w caller (requests.Fetch r) = []
 request_moves w caller (requests.ListOffsets r) = []
 request_moves w caller (requests.Metadata r) = []
-request_moves w caller (requests.OffsetCommit r) = topics_moves (committing_rule w caller r) (rules_of w) (committed_moves w r) w.groups r.topics
+request_moves w caller (requests.OffsetCommit r) =
+    topics_moves (committing_rule w caller r) (rules_of w) (committed_moves w r) w.groups r.topics
 request_moves w caller (requests.OffsetFetch r) = []
 request_moves w caller (requests.FindCoordinator r) = []
 request_moves w caller (requests.JoinGroup r) = []
@@ -159,7 +190,8 @@ request_moves w caller (requests.InitProducerId r) = init_moves w caller r
 request_moves w caller (requests.AddPartitionsToTxn r) = add_moves w caller r
 request_moves w caller (requests.AddOffsetsToTxn r) = add_group_moves w caller r
 request_moves w caller (requests.EndTxn r) = end_moves w caller r
-request_moves w caller (requests.TxnOffsetCommit r) = topics_moves (staging_rule w caller r) (rules_of w) (staged_moves w r) w.groups r.topics
+request_moves w caller (requests.TxnOffsetCommit r) =
+    topics_moves (staging_rule w caller r) (rules_of w) (staged_moves w r) w.groups r.topics
 request_moves w caller (requests.SaslHandshake r) = []
 request_moves w caller requests.ApiVersions = []
 request_moves w caller (requests.SaslAuthenticate r) = []
@@ -171,7 +203,8 @@ request_moves w caller (requests.DeleteAcls r) = []
 abbrev pub moves_of : World → Event → List Move
 moves_of w (events.Ask caller client request) = request_moves w caller request
 moves_of w events.Mark = moves.Mark ∷ []
-moves_of w (events.Tick told) = moves.Moment (moment_after w.moment told) ∷ expiries w.coordinator.transactions
+moves_of w (events.Tick told) =
+    moves.Moment (moment_after w.moment told) ∷ expiries w.coordinator.transactions
 
 -- those of the events, one after the other
 abbrev pub moves_of_all : World → List Event → List Move

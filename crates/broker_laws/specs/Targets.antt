@@ -1,4 +1,5 @@
--- What transactions take in exists: so each marker that is pending has a log or a group to be written to.
+-- What transactions take in exists: so each marker that is pending has a log or a group to be
+-- written to.
 use Rattle.std.specs.Prelude.{◌≡◌, Bool, true, List, is_some}
 use Rattle.txn_coordinator.specs.declared.target.Target.{Target}
 use Rattle.txn_coordinator.specs.declared.target.Target.TheVariants.{Partition, Group}
@@ -10,7 +11,8 @@ use Rattle.txn_laws.specs.Sound.{Each}
 use Rattle.broker_world.specs.World.{World, TopicValue}
 use Rattle.broker_world.specs.Logs.{log_at}
 
--- the target is a partition that is there, or any group: a group begins with the first call that changes it
+-- the target is a partition that is there, or any group: a group begins with the first call that
+-- changes it
 abbrev pub is_there : List TopicValue → Target → Bool
 is_there topics (Partition p) = is_some (log_at topics p.topic p.index)
 is_there topics (Group g) = true

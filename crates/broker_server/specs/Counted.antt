@@ -16,8 +16,9 @@ use Rattle.session_workers.specs.Settle.{Settles}
 abbrev pub receipts_of : List (SessionEnd SeatValue) → List (Vec ReceiptValue Global)
 receipts_of ends = map (λ (end : SessionEnd SeatValue). end.receipts) ends
 
--- So many sessions ended: those whose ends are kept, the keeper's left out, and others, which have no receipt. The receipts of all
--- ends are settled with a core of these settings, of whose trail these are the numbers.
+-- So many sessions ended: those whose ends are kept, the keeper's left out, and others, which have
+-- no receipt. The receipts of all ends are settled with a core of these settings, of whose trail
+-- these are the numbers.
 pub record IsCounted (settings : Settings) (sessions : ℕ) (settled : Settled) : Type 0 where
   pub ends : List (SessionEnd SeatValue)
   pub others : ℕ

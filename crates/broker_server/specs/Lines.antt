@@ -19,7 +19,9 @@ listening_line address = codes "listening on " ++ address ++ codes "\n"
 
 -- the last line, where the books are settled
 abbrev pub settled_line : ℕ → Settled → List ℕ
-settled_line sessions settled = ((codes "sessions " ++ decimal sessions) ++ (codes " events " ++ decimal settled.events)) ++ (codes " refusals " ++ decimal settled.refusals ++ codes "\n")
+settled_line sessions settled =
+    ((codes "sessions " ++ decimal sessions) ++ (codes " events " ++ decimal settled.events))
+    ++ (codes " refusals " ++ decimal settled.refusals ++ codes "\n")
 
 -- the last line, where they aren't
 abbrev pub failure_line : Failure → List ℕ

@@ -28,7 +28,24 @@ abbrev pub first_topics : List TopicSetting → List TopicValue
 first_topics topics = map first_topic topics
 
 abbrev pub first_node : Settings → Node
-first_node s = record { node_id = s.node_id; host = s.host; port = s.port; max_batch = s.max_batch; max_txn_timeout = s.max_txn_timeout }
+first_node s =
+    record {
+      node_id = s.node_id;
+      host = s.host;
+      port = s.port;
+      max_batch = s.max_batch;
+      max_txn_timeout = s.max_txn_timeout;
+    }
 
 abbrev pub first_world : Settings → World
-first_world s = record { node = first_node s; supers = s.supers; book = with_bindings empty_book s.acls; topics = first_topics s.topics; coordinator = no_transactions; groups = []; moment = 0; events = 0 }
+first_world s =
+    record {
+      node = first_node s;
+      supers = s.supers;
+      book = with_bindings empty_book s.acls;
+      topics = first_topics s.topics;
+      coordinator = no_transactions;
+      groups = [];
+      moment = 0;
+      events = 0;
+    }

@@ -9,16 +9,19 @@ use Rattle.msg_admin.specs.declared.reply.Reply.{Reply}
 use Rattle.broker_world.specs.declared.handler_result.HandlerResult.{HandlerResult as Told}
 use Rattle.broker_world.specs.World.{World, rules_of}
 
--- the world that an event leaves, but for the number of events, its reply, and the refusals of its refused parts
+-- the world that an event leaves, but for the number of events, its reply, and the refusals of its
+-- refused parts
 pub record HandlerResult : Type 0 where
   pub world : World
   pub reply : Reply
   pub refusals : List Refusal
 
--- what a handler promises: its event, which asks these questions for itself and these for each of its parts, comes to this
--- outcome. The new world, the reply and the refusals are the outcome's; a permit is spent for each of the event's own
--- questions, if they are granted; and those for the parts are counted. A handler that only reads has one world, old and new
-pub record HandlerMeets (old new : World) (outcome : HandlerResult) (asks : List Question) (parts : List (List Question)) (result : Result Told AllocError) : Type 0 where
+-- what a handler promises: its event, which asks these questions for itself and these for each of
+-- its parts, comes to this outcome. The new world, the reply and the refusals are the outcome's; a
+-- permit is spent for each of the event's own questions, if they are granted; and those for the
+-- parts are counted. A handler that only reads has one world, old and new
+pub record HandlerMeets (old new : World) (outcome : HandlerResult) (asks : List Question)
+    (parts : List (List Question)) (result : Result Told AllocError) : Type 0 where
   pub world : OnOk result (new ≡ outcome.world)
   pub reply : IfOk result (λ o. o.reply ≡ outcome.reply)
   pub refusals : IfOk result (λ o. o.refusals ≡ outcome.refusals)

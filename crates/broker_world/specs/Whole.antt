@@ -14,11 +14,15 @@ pub record Served : Type 0 where
   pub world : World
   pub reply : Reply
 
--- by its refusal, if it is refused: then nothing is changed, and the answer has the code of the refusal
+-- by its refusal, if it is refused: then nothing is changed, and the answer has the code of the
+-- refusal
 abbrev pub whole_outcome_by : Option Refusal → World → (ErrorCode → Reply) → Served → HandlerResult
-whole_outcome_by None w refused served = record { world = served.world; reply = served.reply; refusals = [] }
-whole_outcome_by (Some r) w refused served = record { world = w; reply = refused (refusal_code r); refusals = r ∷ [] }
+whole_outcome_by None w refused served =
+    record { world = served.world; reply = served.reply; refusals = [] }
+whole_outcome_by (Some r) w refused served =
+    record { world = w; reply = refused (refusal_code r); refusals = r ∷ [] }
 
 -- the questions of the request are decided by the book at the event's start
 abbrev pub whole_outcome : World → List Question → (ErrorCode → Reply) → Served → HandlerResult
-whole_outcome w questions refused served = whole_outcome_by (part_refusal (rules_of w) questions) w refused served
+whole_outcome w questions refused served =
+    whole_outcome_by (part_refusal (rules_of w) questions) w refused served

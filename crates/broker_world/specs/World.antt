@@ -1,5 +1,5 @@
--- The broker's world: all that it keeps between two events. It is laid out for the whole broker; what no api
--- changes yet is empty.
+-- The broker's world: all that it keeps between two events. It is laid out for the whole broker;
+-- what no api changes yet is empty.
 use Rattle.std.specs.Prelude.{ℕ, List, map, Option}
 use Rattle.std.specs.List.{find}
 use Rattle.std.specs.Str.{bytes_eq}

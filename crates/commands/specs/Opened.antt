@@ -15,10 +15,13 @@ printed_by (unopened.Early early) = Err early
 
 -- the core and the users are those of the settings, and nothing is printed
 abbrev pub IsOf : Option (List ℕ) → Option (List ℕ) → List ℕ → Opened → Type 0
-IsOf old new settings o = (document_of_text settings ≡ Ok (record { users = o.users; settings = o.core.settings })) × (new ≡ old)
+IsOf old new settings o =
+    (document_of_text settings ≡ Ok (record { users = o.users; settings = o.core.settings }))
+    × (new ≡ old)
 
 -- it is of the settings; or what is told of them is printed, or a front of it
-abbrev pub Opens : Option (List ℕ) → Option (List ℕ) → List ℕ → Answer → Result Opened Unopened → Type 0
+abbrev pub Opens : Option (List ℕ) → Option (List ℕ) → List ℕ → Answer → Result Opened Unopened
+    → Type 0
 Opens old new settings answer (Ok o) = IsOf old new settings o
 Opens old new settings answer (Err u) = Printed old new answer (printed_by u)
 

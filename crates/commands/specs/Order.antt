@@ -12,7 +12,8 @@ use Rattle.commands.specs.declared.order.Sent.{Sent}
 use Rattle.commands.specs.declared.order.Order.{Order}
 use Rattle.commands.specs.declared.order.Order.TheVariants.{Ask, Mark, Tick}
 
--- a size field, and the bytes that it counts (Kafka protocol guide, "Common Request and Response Structure")
+-- a size field, and the bytes that it counts (Kafka protocol guide, "Common Request and Response
+-- Structure")
 abbrev pub bytes_after_size : Found ℕ → Option (List ℕ)
 bytes_after_size (Ok x) = if x.0 == length x.1 then Some x.1 else None
 bytes_after_size (Err e) = None
@@ -33,7 +34,8 @@ parts_at_blank text =
 
 -- ---- `req USER HOST HEX`
 
--- after `req `: the user and the host, neither of which is empty, and all that follows the second blank
+-- after `req `: the user and the host, neither of which is empty, and all that follows the second
+-- blank
 abbrev pub words_of : List ℕ → Option (List ℕ × List ℕ × List ℕ)
 words_of text =
     option_and_then (λ b. option_and_then (λ c.
@@ -45,7 +47,9 @@ abbrev pub caller_of : List ℕ → List ℕ → Caller
 caller_of user host = record { who = codes "User:" ++ user; host = host }
 
 abbrev pub sent_by : List ℕ × List ℕ × List ℕ → Option Sent
-sent_by words = option_map (λ frame. record { caller = caller_of words.0 words.1; frame = frame }) (frame_of words.2)
+sent_by words =
+    option_map (λ frame. record { caller = caller_of words.0 words.1; frame = frame })
+    (frame_of words.2)
 
 -- what is sent, and by whom
 abbrev pub sent_of : List ℕ → Option Sent
@@ -56,7 +60,8 @@ sent_of text = option_and_then sent_by (words_of text)
 -- the number below 2^64 that decimal digits write, of which there is one at least
 abbrev pub number_of : List ℕ → Option ℕ
 number_of digits =
-    if (nat_lt 0 (length digits) && all_ascii_digits digits) && nat_lt (digits_value 10 digits) (2 ^ 64)
+    if (nat_lt 0 (length digits) && all_ascii_digits digits)
+    && nat_lt (digits_value 10 digits) (2 ^ 64)
     then Some (digits_value 10 digits) else None
 
 -- ---- any line
@@ -68,7 +73,9 @@ order_by parts =
     if bytes_eq parts.0 (codes "tick") then option_map Tick (number_of parts.1) else None
 
 abbrev pub order_in : List ℕ → Option Order
-order_in text = if bytes_eq text (codes "mark") then Some Mark else option_and_then order_by (parts_at_blank text)
+order_in text =
+    if bytes_eq text (codes "mark") then Some Mark
+    else option_and_then order_by (parts_at_blank text)
 
 -- the bytes, if they are UTF-8
 abbrev pub text_of : List ℕ → Option (List ℕ)

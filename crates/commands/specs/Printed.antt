@@ -12,7 +12,8 @@ use Rattle.commands.specs.Replay.{Answer, refused_line}
 abbrev pub IsUnwritten : Early → List ℕ → Type 0
 IsUnwritten early done = early ≡ Settings → done ≡ []
 
--- some of the answer's text was written, from its front; all of it, with its status, where the run is Ok
+-- some of the answer's text was written, from its front; all of it, with its status, where the run
+-- is Ok
 pub record Printed (old new : Option (List ℕ)) (answer : Answer) (r : Result ℕ Early) : Type 0 where
   pub done : List ℕ
   pub left : List ℕ
@@ -35,10 +36,11 @@ last_words early = []
 abbrev pub EndsEarly : Option (List ℕ) → Option (List ℕ) → Early → Type 0
 EndsEarly old new early = (last : List ℕ) × IsFrontOf last (last_words early) × Appends old new last
 
--- A run with this status wrote the whole answer and has its status, or ended early with status 1. Then some of the
--- answer's text stands written, from its front, and a front of the last words after it: those of refused settings only where
--- nothing else is written.
+-- A run with this status wrote the whole answer and has its status, or ended early with status 1.
+-- Then some of the answer's text stands written, from its front, and a front of the last words
+-- after it: those of refused settings only where nothing else is written.
 pub data Replayed (old new : Option (List ℕ)) (answer : Answer) (status : ℕ) : Type 0 where
   whole : Appends old new answer.text → status ≡ answer.status → Replayed old new answer status
-  cut : (early : Early) (done left last : List ℕ) → answer.text ≡ done ++ left → IsUnwritten early done → IsFrontOf last (last_words early)
+  cut : (early : Early) (done left last : List ℕ) → answer.text ≡ done ++ left
+      → IsUnwritten early done → IsFrontOf last (last_words early)
       → Appends old new (done ++ last) → status ≡ 1 → Replayed old new answer status

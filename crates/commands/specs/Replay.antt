@@ -57,7 +57,8 @@ closed_line = codes "closed" ++ feed
 
 -- the response, if it can be sent
 abbrev pub reply_line : ℤ → Reply → List ℕ
-reply_line correlation reply = if is_sendable correlation reply then frame_line (response correlation reply) else closed_line
+reply_line correlation reply =
+    if is_sendable correlation reply then frame_line (response correlation reply) else closed_line
 
 -- the refusals that a trail keeps at a place
 abbrev pub refusals_in : Option Entry → List Refusal
@@ -81,23 +82,33 @@ pub data Transition : Type 0 where
   goes : List Event → List ℕ → Transition
   ends : List ℕ → Transition
 
--- An event after others, from the settings on, prints the plain broker's answer to exactly what the binding list in force
--- allows of it, with each other part's code at its place and its refusal in a line of its own.
+-- An event after others, from the settings on, prints the plain broker's answer to exactly what the
+-- binding list in force allows of it, with each other part's code at its place and its refusal in a
+-- line of its own.
 abbrev pub step_transition : Settings → List Event → ℤ → Event → Transition
-step_transition s before correlation e = if nat_lt (length before) (trail_limit s) then goes (before ++ e ∷ []) (event_text correlation (reference_step (state_after s before) e)) else ends (stop_line TrailFull)
+step_transition s before correlation e =
+    if nat_lt (length before) (trail_limit s)
+    then goes (before ++ e ∷ [])
+    (event_text correlation (reference_step (state_after s before) e))
+    else ends (stop_line TrailFull)
 
--- What a frame does: a request is an event. Whoever asks ApiVersions in a version that is not served is told which is. Any other
--- frame closes.
+-- What a frame does: a request is an event. Whoever asks ApiVersions in a version that is not
+-- served is told which is. Any other frame closes.
 abbrev pub request_transition : Settings → List Event → Caller → Frame → Transition
-request_transition s before caller (frames.Request h r) = step_transition s before h.correlation (events.Ask caller h.client r)
-request_transition s before caller (frames.OtherApiVersions correlation) = goes before (frame_line (unsupported_response correlation))
+request_transition s before caller (frames.Request h r) =
+    step_transition s before h.correlation (events.Ask caller h.client r)
+request_transition s before caller (frames.OtherApiVersions correlation) =
+    goes before (frame_line (unsupported_response correlation))
 request_transition s before caller (frames.Malformed fault) = goes before closed_line
 
 -- a frame above the limit closes before it is read
 abbrev pub frame_transition : Settings → List Event → Sent → Transition
-frame_transition s before sent = if nat_lt FRAME_LIMIT (length sent.frame) then goes before closed_line else request_transition s before sent.caller (frame_at sent.frame)
+frame_transition s before sent =
+    if nat_lt FRAME_LIMIT (length sent.frame) then goes before closed_line
+    else request_transition s before sent.caller (frame_at sent.frame)
 
--- the step of an event that no one asked for: what it is answered is not sent, so no correlation id stands in it
+-- the step of an event that no one asked for: what it is answered is not sent, so no correlation id
+-- stands in it
 abbrev pub unasked_transition : Settings → List Event → Event → Transition
 unasked_transition s before e = step_transition s before (pos 0) e
 
@@ -112,7 +123,8 @@ read_transition s before number (Some order) = order_transition s before order
 
 -- what the line of this number does, after these events
 abbrev pub line_transition : Settings → List Event → ℕ → List ℕ → Transition
-line_transition s before number line = read_transition s before number (order_of (strip_last 10 line))
+line_transition s before number line =
+    read_transition s before number (order_of (strip_last 10 line))
 
 abbrev pub answer_after : Transition → (List Event → Answer) → Answer
 answer_after (goes events text) rest = with_text_before text (rest events)
@@ -121,15 +133,19 @@ answer_after (ends text) rest = record { text = text; status = 1 }
 -- the answer to the lines from this number on, after these events
 abbrev pub script_answer : Settings → List Event → ℕ → List (List ℕ) → Answer
 script_answer s before number [] = record { text = []; status = 0 }
-script_answer s before number (line ∷ lines) = answer_after (line_transition s before number line) (λ more. script_answer s more (number + 1) lines)
+script_answer s before number (line ∷ lines) =
+    answer_after (line_transition s before number line)
+    (λ more. script_answer s more (number + 1) lines)
 
 -- the core is up, with these settings
 abbrev pub IsUp : Settings → CoreValue → Type 0
 IsUp s core = (core.settings ≡ s) × (core.down ≡ false)
 
--- the transition that a call gave is the one that is due, and where the script goes on it leaves a core that is up after its events
+-- the transition that a call gave is the one that is due, and where the script goes on it leaves a
+-- core that is up after its events
 abbrev pub IsTransition : Transition → Settings → CoreValue → code.Turn → Type 0
-IsTransition due s new (Goes text) = (due ≡ goes (events_of new.trail) (string_bytes text)) × IsUp s new
+IsTransition due s new (Goes text) =
+    (due ≡ goes (events_of new.trail) (string_bytes text)) × IsUp s new
 IsTransition due s new (Ends text cause) = due ≡ ends (string_bytes text)
 
 -- ---- an input
@@ -147,11 +163,13 @@ opened_answer (Ok d) lines = script_answer d.settings [] 1 lines
 
 -- settings up to a line `---` or the end, and a script after it
 abbrev pub input_answer : List ℕ → Answer
-input_answer input = opened_answer (document_of_text (settings_part (lines_of input))) (script_part (lines_of input))
+input_answer input =
+    opened_answer (document_of_text (settings_part (lines_of input))) (script_part (lines_of input))
 
 -- an input above the limit is a failed read
 abbrev pub within_limit : List ℕ → Answer → Answer
-within_limit input answer = if nat_lt INPUT_LIMIT (length input) then record { text = []; status = 1 } else answer
+within_limit input answer =
+    if nat_lt INPUT_LIMIT (length input) then record { text = []; status = 1 } else answer
 
 -- what `replay` is to write for an input, and its status
 abbrev pub replay_answer : List ℕ → Answer

@@ -31,13 +31,15 @@ use Rattle.broker_world.specs.Logs.{log_at}
 
 -- ---- how much may be served
 
--- the lesser of what is left of the request's bytes and what is wanted of the partition; a negative number is none
+-- the lesser of what is left of the request's bytes and what is wanted of the partition; a negative
+-- number is none
 abbrev pub budget_for : FetchBudget → FetchPartition → ℕ
 budget_for budget p = min (non_negative p.max_bytes) budget.left
 
 -- what is left once the batches were given
 abbrev pub budget_after_batches : FetchBudget → List BatchData → FetchBudget
-budget_after_batches budget batches = record { left = budget.left - total_bytes batches; given = budget.given || has_any batches }
+budget_after_batches budget batches =
+    record { left = budget.left - total_bytes batches; given = budget.given || has_any batches }
 
 -- ---- a partition, permission aside
 
@@ -45,35 +47,57 @@ abbrev pub is_outside : LogValue → ℤ → Bool
 is_outside log offset = int_lt offset (pos 0) || int_lt (end_of log) offset
 
 -- What is served of a partition: where none of the answer was given a batch yet, one is forced.
-abbrev pub served_by : Isolation → FetchBudget → FetchPartition → Option LogValue → Result Served ErrorCode
+abbrev pub served_by : Isolation → FetchBudget → FetchPartition → Option LogValue
+    → Result Served ErrorCode
 served_by level budget p None = Err codes.UnknownTopicOrPartition
-served_by level budget p (Some log) = if is_outside log p.offset then Err codes.OffsetOutOfRange else Ok (served_of log p.offset level (budget_for budget p) (not budget.given))
+served_by level budget p (Some log) =
+    if is_outside log p.offset then Err codes.OffsetOutOfRange
+    else Ok (served_of log p.offset level (budget_for budget p) (not budget.given))
 
-abbrev pub served_at : Isolation → List TopicValue → FetchBudget → List ℕ → FetchPartition → Result Served ErrorCode
+abbrev pub served_at : Isolation → List TopicValue → FetchBudget → List ℕ → FetchPartition
+    → Result Served ErrorCode
 served_at level topics budget name p = served_by level budget p (log_at topics name p.index)
 
 abbrev pub fetched_error : ErrorCode → FetchPartition → FetchedRecords
-fetched_error code p = record { index = p.index; error = code; high_watermark = negsuc 0; last_stable_offset = negsuc 0; aborted = None; records = [] }
+fetched_error code p =
+    record {
+      index = p.index;
+      error = code;
+      high_watermark = negsuc 0;
+      last_stable_offset = negsuc 0;
+      aborted = None;
+      records = [];
+    }
 
 -- the batches, one after the other
 abbrev pub batch_bytes : List BatchData → List ℕ
 batch_bytes batches = flat_map (λ (b : BatchData). b.bytes) batches
 
--- read_committed is told the aborted transactions, of which there may be none, and read_uncommitted no list
+-- read_committed is told the aborted transactions, of which there may be none, and read_uncommitted
+-- no list
 abbrev pub aborted_list : Isolation → List AbortedTransaction → Option (List AbortedTransaction)
 aborted_list levels.ReadUncommitted list = None
 aborted_list levels.ReadCommitted list = Some list
 
 abbrev pub fetched_partition : Isolation → FetchPartition → Result Served ErrorCode → FetchedRecords
 fetched_partition level p (Err code) = fetched_error code p
-fetched_partition level p (Ok s) = record { index = p.index; error = codes.None; high_watermark = s.high; last_stable_offset = s.stable; aborted = aborted_list level s.aborted; records = batch_bytes s.batches }
+fetched_partition level p (Ok s) =
+    record {
+      index = p.index;
+      error = codes.None;
+      high_watermark = s.high;
+      last_stable_offset = s.stable;
+      aborted = aborted_list level s.aborted;
+      records = batch_bytes s.batches;
+    }
 
 abbrev pub budget_after : FetchBudget → Result Served ErrorCode → FetchBudget
 budget_after budget (Err code) = budget
 budget_after budget (Ok s) = budget_after_batches budget s.batches
 
 -- it changes nothing but the budget of its answer
-abbrev pub fetch_rule : Caller → Isolation → List TopicValue → PartRule FetchPartition FetchedRecords FetchBudget
+abbrev pub fetch_rule : Caller → Isolation → List TopicValue
+    → PartRule FetchPartition FetchedRecords FetchBudget
 fetch_rule caller level topics = record {
   questions = λ name p. question_of caller operations.Read kinds.Topic name ∷ [];
   plain = λ budget name p. fetched_partition level p (served_at level topics budget name p);
@@ -92,6 +116,11 @@ whole_budget r = record { left = non_negative r.max_bytes; given = false }
 abbrev pub fetch_outcome : World → Caller → FetchRequest → HandlerResult
 fetch_outcome w caller r = record {
   world = w;
-  reply = replies.Fetch (record { throttle = pos 0; topics = answers (fetch_rule caller r.isolation w.topics) (rules_of w) (whole_budget r) r.topics });
+  reply = replies.Fetch
+      (record {
+        throttle = pos 0;
+        topics = answers (fetch_rule caller r.isolation w.topics) (rules_of w) (whole_budget r)
+            r.topics;
+      });
   refusals = refusals (fetch_rule caller r.isolation w.topics) (rules_of w) r.topics;
 }

@@ -1,4 +1,5 @@
--- Bytes as they come, cut into frames (Kafka protocol guide, "Common Request and Response Structure").
+-- Bytes as they come, cut into frames (Kafka protocol guide, "Common Request and Response
+-- Structure").
 use Rattle.std.specs.Prelude.{◌≡◌, ◌+◌, ◌≤◌, ℕ, zero, suc, List, [], ◌∷◌, ◌++◌, length, map, take, All, Option, None, Some, IfSome}
 use Rattle.std.specs.Int.{from_be_bytes, w32}
 use Rattle.std.specs.declared.time.Duration.{Duration}
@@ -26,7 +27,8 @@ size_of frame = from_be_bytes w32 (bytes_of (take 4 frame))
 abbrev pub IsFrame : List Came → Type 0
 IsFrame frame = (4 ≤ length frame) × (length frame ≡ 4 + size_of frame)
 
--- what has come of a frame that isn't whole: nothing, bytes of its size field, or that and its body but for some bytes and the last
+-- what has come of a frame that isn't whole: nothing, bytes of its size field, or that and its body
+-- but for some bytes and the last
 abbrev pub IsPart : Part → List Came → Type 0
 IsPart Nothing part = part ≡ []
 IsPart (One a) part = bytes_of part ≡ a ∷ []

@@ -9,7 +9,8 @@ abbrev pub timed_remaining : {S R : Type 0} → (S → Option (List ℕ)) → Ti
 timed_remaining remaining reader = remaining reader.stream
 
 -- what a writer holds is what its stream holds
-abbrev pub timed_contents : {S R : Type 0} → (S → Option (List ℕ)) → TimedWriter S R → Option (List ℕ)
+abbrev pub timed_contents : {S R : Type 0} → (S → Option (List ℕ)) → TimedWriter S R
+    → Option (List ℕ)
 timed_contents contents writer = contents writer.stream
 
 -- how far the peer of a reader has come

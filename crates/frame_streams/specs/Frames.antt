@@ -1,4 +1,5 @@
--- Frames: the input, cut by their sizes (Kafka protocol guide, "Common Request and Response Structure").
+-- Frames: the input, cut by their sizes (Kafka protocol guide, "Common Request and Response
+-- Structure").
 use Rattle.std.specs.Prelude.{◌≡◌, ℕ, ◌==◌, ◌||◌, nat_lt, List, [], ◌++◌, length, take, drop, ◌⊎◌, if◌then◌else◌}
 use Rattle.std.specs.Int.{from_be_bytes, w32}
 use Rattle.frame_streams.specs.declared.fault.FrameFault.{FrameFault}
@@ -49,12 +50,14 @@ IsOf most came frame = (came.kept ≡ kept_bytes most frame) × (came.size ≡ l
 
 -- the bytes that were read are a frame of which this came, whatever follows
 abbrev pub Arrives : ℕ → ℕ → Came → List ℕ → List ℕ → Type 0
-Arrives limit most came read rest = (frame : List ℕ) × IsOf most came frame × Comes limit frame read rest
+Arrives limit most came read rest =
+    (frame : List ℕ) × IsOf most came frame × Comes limit frame read rest
 
 -- where a frame does not come
 abbrev pub Lacks : ℕ → FrameFault → List ℕ → List ℕ → Type 0
 Lacks limit fault.Closed read rest = (front_of limit read ≡ Nothing) × (rest ≡ [])
 Lacks limit fault.Cut read rest = (front_of limit read ≡ Part) × (rest ≡ [])
 Lacks limit fault.BadFrame read rest = (tail : List ℕ) → front_of limit (read ++ tail) ≡ Bad
-Lacks limit fault.ReadFault read rest = (front_of limit read ≡ Nothing) ⊎ (front_of limit read ≡ Part)
+Lacks limit fault.ReadFault read rest =
+    (front_of limit read ≡ Nothing) ⊎ (front_of limit read ≡ Part)
 Lacks limit fault.NoMemory read rest = Unit {0}

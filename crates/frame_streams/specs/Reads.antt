@@ -6,7 +6,9 @@ use Rattle.frame_streams.specs.declared.fault.FrameFault.TheVariants as fault
 
 -- what was read of known bytes, and what is left of them
 abbrev pub Took : Option (List ℕ) → Option (List ℕ) → (List ℕ → List ℕ → Type 0) → Type 0
-Took old new P = IfSome old (λ input. (read rest : List ℕ) × (input ≡ read ++ rest) × (new ≡ Some rest) × P read rest)
+Took old new P =
+    IfSome old
+    (λ input. (read rest : List ℕ) × (input ≡ read ++ rest) × (new ≡ Some rest) × P read rest)
 
 -- the same of a reader that is given up after it
 abbrev pub TookLast : Option (List ℕ) → (List ℕ → List ℕ → Type 0) → Type 0
@@ -26,7 +28,8 @@ Passes old new n = (read : List ℕ) × (length read ≡ n) × Consumes old new 
 
 -- so many bytes were read, and these are the first of them
 abbrev pub ReadsPast : Option (List ℕ) → Option (List ℕ) → List ℕ → ℕ → Type 0
-ReadsPast old new front n = (more : List ℕ) × (length front + length more ≡ n) × Consumes old new (front ++ more)
+ReadsPast old new front n =
+    (more : List ℕ) × (length front + length more ≡ n) × Consumes old new (front ++ more)
 
 abbrev pub HeadLacks : FrameFault → List ℕ → List ℕ → Type 0
 HeadLacks fault.Closed read rest = (length read ≡ 0) × (rest ≡ [])

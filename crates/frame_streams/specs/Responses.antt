@@ -1,5 +1,5 @@
--- A long response: what stands before the topics of its answer, and these (Kafka protocol guide, "Metadata API (Key: 3)" and
--- "Fetch API (Key: 1)": in both the topics come last).
+-- A long response: what stands before the topics of its answer, and these (Kafka protocol guide,
+-- "Metadata API (Key: 3)" and "Fetch API (Key: 1)": in both the topics come last).
 use Rattle.std.specs.Prelude.{◌≡◌, ◌+◌, ◌^◌, ◌<◌, ℕ, ℤ, pos, true, List, [], ◌++◌, length}
 use Rattle.wire_types.specs.Grammar.{Grammar}
 use Rattle.wire_types.specs.Combinators.{◌⨟◌}
@@ -26,7 +26,8 @@ pub record IsFront (correlation : ℤ) (r : Reply) (front : List ℕ) : Type 0 w
   pub sendable : is_sendable correlation r ≡ true
   pub whole : front ++ topics_of r ≡ response correlation r
 
--- it counts the bytes of an answer that can be written and of the correlation id before it, and an INT32 can tell it
+-- it counts the bytes of an answer that can be written and of the correlation id before it, and an
+-- INT32 can tell it
 pub record IsSize {A : Type 0} (g : Grammar A) (x : A) (size : ℤ) : Type 0 where
   pub fits : g.fits x ≡ true
   pub counted : size ≡ pos (4 + length (g.written x))
@@ -37,7 +38,8 @@ abbrev pub metadata_front : Grammar (ℤ × (ℤ × (List BrokerInfo × (ℤ × 
 metadata_front = int32 ⨟ int32 ⨟ array broker ⨟ int32 ⨟ count32
 
 abbrev pub metadata_front_of : ℤ → ℤ → MetadataReply → ℤ × (ℤ × (List BrokerInfo × (ℤ × ℕ)))
-metadata_front_of size correlation r = (size, (correlation, (r.brokers, (r.controller, length r.topics))))
+metadata_front_of size correlation r =
+    (size, (correlation, (r.brokers, (r.controller, length r.topics))))
 
 -- the size, the correlation id, throttle_time_ms and how many topics follow
 abbrev pub fetch_front : Grammar (ℤ × (ℤ × (ℤ × ℕ)))

@@ -1,5 +1,6 @@
--- JoinGroup, SyncGroup, Heartbeat and LeaveGroup: what they ask, and what they are answered (Kafka protocol guide,
--- "JoinGroup API (Key: 11)", "Heartbeat API (Key: 12)", "LeaveGroup API (Key: 13)", "SyncGroup API (Key: 14)").
+-- JoinGroup, SyncGroup, Heartbeat and LeaveGroup: what they ask, and what they are answered (Kafka
+-- protocol guide, "JoinGroup API (Key: 11)", "Heartbeat API (Key: 12)", "LeaveGroup API (Key: 13)",
+-- "SyncGroup API (Key: 14)").
 use Rattle.std.specs.Prelude.{ℕ, pos, negsuc, List, [], ◌∷◌, Result, Ok, Err}
 use Rattle.acl_binding.specs.declared.question.Caller.{Caller}
 use Rattle.wire_types.specs.declared.error_code.ErrorCode.{ErrorCode}
@@ -37,7 +38,16 @@ join_welcome j = record {
 }
 
 abbrev pub join_error : ErrorCode → JoinGroupRequest → JoinGroupReply
-join_error code r = record { throttle = pos 0; error = code; generation = negsuc 0; protocol = []; leader = []; member = r.member; members = [] }
+join_error code r =
+    record {
+      throttle = pos 0;
+      error = code;
+      generation = negsuc 0;
+      protocol = [];
+      leader = [];
+      member = r.member;
+      members = [];
+    }
 
 abbrev pub join_reply : Result Joined ErrorCode → JoinGroupRequest → JoinGroupReply
 join_reply (Ok j) r = join_welcome j
@@ -45,22 +55,36 @@ join_reply (Err code) r = join_error code r
 
 -- a new member is named after the event's place
 abbrev pub served_join : World → JoinGroupRequest → Served
-served_join w r = record { world = record w { groups = groups_after w.groups (join w.groups r w.events w.moment) }; reply = replies.JoinGroup (join_reply (answer_of (join w.groups r w.events w.moment)) r) }
+served_join w r =
+    record {
+      world = record w
+          { groups = groups_after w.groups (join w.groups r w.events w.moment) };
+      reply = replies.JoinGroup (join_reply (answer_of (join w.groups r w.events w.moment)) r);
+    }
 
 abbrev pub join_group_outcome : World → Caller → JoinGroupRequest → HandlerResult
-join_group_outcome w caller r = whole_outcome w (read_question caller r.group ∷ []) (λ code. replies.JoinGroup (join_error code r)) (served_join w r)
+join_group_outcome w caller r =
+    whole_outcome w (read_question caller r.group ∷ [])
+    (λ code. replies.JoinGroup (join_error code r)) (served_join w r)
 
 -- ---- SyncGroup
 
 abbrev pub sync_reply : Result (List ℕ) ErrorCode → SyncGroupReply
-sync_reply (Ok assignment) = record { throttle = pos 0; error = codes.None; assignment = assignment }
+sync_reply (Ok assignment) =
+    record { throttle = pos 0; error = codes.None; assignment = assignment }
 sync_reply (Err code) = record { throttle = pos 0; error = code; assignment = [] }
 
 abbrev pub served_sync : World → SyncGroupRequest → Served
-served_sync w r = record { world = record w { groups = groups_after w.groups (sync w.groups r w.moment) }; reply = replies.SyncGroup (sync_reply (answer_of (sync w.groups r w.moment))) }
+served_sync w r =
+    record {
+      world = record w { groups = groups_after w.groups (sync w.groups r w.moment) };
+      reply = replies.SyncGroup (sync_reply (answer_of (sync w.groups r w.moment)));
+    }
 
 abbrev pub sync_group_outcome : World → Caller → SyncGroupRequest → HandlerResult
-sync_group_outcome w caller r = whole_outcome w (read_question caller r.group ∷ []) (λ code. replies.SyncGroup (sync_reply (Err code))) (served_sync w r)
+sync_group_outcome w caller r =
+    whole_outcome w (read_question caller r.group ∷ [])
+    (λ code. replies.SyncGroup (sync_reply (Err code))) (served_sync w r)
 
 -- ---- Heartbeat
 
@@ -68,10 +92,16 @@ abbrev pub beat_reply : ErrorCode → HeartbeatReply
 beat_reply code = record { throttle = pos 0; error = code }
 
 abbrev pub served_heartbeat : World → HeartbeatRequest → Served
-served_heartbeat w r = record { world = record w { groups = groups_after w.groups (beat w.groups r w.moment) }; reply = replies.Heartbeat (beat_reply (code_in (answer_of (beat w.groups r w.moment)))) }
+served_heartbeat w r =
+    record {
+      world = record w { groups = groups_after w.groups (beat w.groups r w.moment) };
+      reply = replies.Heartbeat (beat_reply (code_in (answer_of (beat w.groups r w.moment))));
+    }
 
 abbrev pub heartbeat_outcome : World → Caller → HeartbeatRequest → HandlerResult
-heartbeat_outcome w caller r = whole_outcome w (read_question caller r.group ∷ []) (λ code. replies.Heartbeat (beat_reply code)) (served_heartbeat w r)
+heartbeat_outcome w caller r =
+    whole_outcome w (read_question caller r.group ∷ [])
+    (λ code. replies.Heartbeat (beat_reply code)) (served_heartbeat w r)
 
 -- ---- LeaveGroup
 
@@ -79,7 +109,13 @@ abbrev pub leave_reply : ErrorCode → LeaveGroupReply
 leave_reply code = record { throttle = pos 0; error = code }
 
 abbrev pub served_leave : World → LeaveGroupRequest → Served
-served_leave w r = record { world = record w { groups = groups_after w.groups (leave w.groups r) }; reply = replies.LeaveGroup (leave_reply (code_in (answer_of (leave w.groups r)))) }
+served_leave w r =
+    record {
+      world = record w { groups = groups_after w.groups (leave w.groups r) };
+      reply = replies.LeaveGroup (leave_reply (code_in (answer_of (leave w.groups r))));
+    }
 
 abbrev pub leave_group_outcome : World → Caller → LeaveGroupRequest → HandlerResult
-leave_group_outcome w caller r = whole_outcome w (read_question caller r.group ∷ []) (λ code. replies.LeaveGroup (leave_reply code)) (served_leave w r)
+leave_group_outcome w caller r =
+    whole_outcome w (read_question caller r.group ∷ [])
+    (λ code. replies.LeaveGroup (leave_reply code)) (served_leave w r)

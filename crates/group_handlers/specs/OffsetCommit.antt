@@ -1,4 +1,5 @@
--- OffsetCommit: what one partition asks, does and is answered (Kafka protocol guide, "OffsetCommit API (Key: 8)").
+-- OffsetCommit: what one partition asks, does and is answered (Kafka protocol guide, "OffsetCommit
+-- API (Key: 8)").
 use Rattle.std.specs.Prelude.{ℕ, ℤ, List, [], ◌∷◌, Option, Some, None, unwrap_or}
 use Rattle.std.proofs.Common.{zero-le}
 use Rattle.acl_binding.specs.declared.question.Caller.{Caller}
@@ -40,11 +41,13 @@ committing_by m = record { group = m.group.now; generation = m.generation; membe
 
 -- to read the group, and then to read the topic
 abbrev pub commit_questions : Caller → List ℕ → List ℕ → List Question
-commit_questions caller group name = read_question caller group ∷ question_of caller operations.Read kinds.Topic name ∷ []
+commit_questions caller group name =
+    read_question caller group ∷ question_of caller operations.Read kinds.Topic name ∷ []
 
 -- null metadata is kept as the empty text
 abbrev pub offset_of : List ℕ → OffsetToCommit → PartitionOffset
-offset_of name p = record { topic = name; index = p.index; offset = p.offset; metadata = unwrap_or p.metadata [] }
+offset_of name p =
+    record { topic = name; index = p.index; offset = p.offset; metadata = unwrap_or p.metadata [] }
 
 abbrev pub committed_code : ErrorCode → OffsetToCommit → CommittedOffset
 committed_code code p = record { index = p.index; error = code }
@@ -55,7 +58,8 @@ abbrev pub offset_code : Committing → List Group → PartitionOffset → Optio
 offset_code c gs o None = codes.UnknownTopicOrPartition
 offset_code c gs o (Some log) = code_in (answer_of (commit gs c.group c.generation c.member o))
 
-abbrev pub groups_with_offset : Committing → List Group → PartitionOffset → Option LogValue → List Group
+abbrev pub groups_with_offset : Committing → List Group → PartitionOffset → Option LogValue
+    → List Group
 groups_with_offset c gs o None = gs
 groups_with_offset c gs o (Some log) = groups_after gs (commit gs c.group c.generation c.member o)
 
@@ -64,10 +68,12 @@ groups_with_offset c gs o (Some log) = groups_after gs (commit gs c.group c.gene
 abbrev pub code_by : Committing → List Group → List ℕ → OffsetToCommit → Option LogValue → ErrorCode
 code_by c gs name p log = offset_code c gs (offset_of name p) log
 
-abbrev pub groups_by : Committing → List Group → List ℕ → OffsetToCommit → Option LogValue → List Group
+abbrev pub groups_by : Committing → List Group → List ℕ → OffsetToCommit → Option LogValue
+    → List Group
 groups_by c gs name p log = groups_with_offset c gs (offset_of name p) log
 
-abbrev pub commit_rule : Caller → Committing → List TopicValue → PartRule OffsetToCommit CommittedOffset (List Group)
+abbrev pub commit_rule : Caller → Committing → List TopicValue
+    → PartRule OffsetToCommit CommittedOffset (List Group)
 commit_rule caller c topics = record {
   questions = λ name p. commit_questions caller c.group name;
   plain = λ gs name p. committed_code (code_by c gs name p (log_at topics name p.index)) p;
@@ -80,12 +86,15 @@ commit_rule caller c topics = record {
 
 -- ---- the request
 
-abbrev pub committing_rule : World → Caller → OffsetCommitRequest → PartRule OffsetToCommit CommittedOffset (List Group)
+abbrev pub committing_rule : World → Caller → OffsetCommitRequest
+    → PartRule OffsetToCommit CommittedOffset (List Group)
 committing_rule w caller r = commit_rule caller (committing_of r) w.topics
 
 abbrev pub offset_commit_outcome : World → Caller → OffsetCommitRequest → HandlerResult
 offset_commit_outcome w caller r = record {
-  world = record w { groups = world_after (committing_rule w caller r) (rules_of w) w.groups r.topics };
-  reply = replies.OffsetCommit (record { topics = answers (committing_rule w caller r) (rules_of w) w.groups r.topics });
+  world = record w
+      { groups = world_after (committing_rule w caller r) (rules_of w) w.groups r.topics };
+  reply = replies.OffsetCommit
+      (record { topics = answers (committing_rule w caller r) (rules_of w) w.groups r.topics });
   refusals = refusals (committing_rule w caller r) (rules_of w) r.topics;
 }

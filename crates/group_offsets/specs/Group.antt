@@ -1,5 +1,5 @@
--- What a group with at most one member answers, and what that leaves (Kafka protocol guide, the group membership APIs;
--- KIP-98 and KIP-447 for offsets in a transaction).
+-- What a group with at most one member answers, and what that leaves (Kafka protocol guide, the
+-- group membership APIs; KIP-98 and KIP-447 for offsets in a transaction).
 use Rattle.std.specs.Prelude.{ℕ, ℤ, pos, negsuc, ◌+◌, Bool, false, ◌&&◌, not, List, [], ◌∷◌, ◌++◌, length, nat_eq, nat_lt, if◌then◌else◌, Option, Some, None, is_some, unwrap_or}
 use Rattle.std.specs.Ordering.{int_eq}
 use Rattle.std.specs.Option.{option_map}
@@ -20,7 +20,8 @@ use Rattle.group_offsets.specs.GroupTransition.{GroupTransition, Stays, Puts}
 
 -- a group that nobody joined and no offset was committed for
 abbrev pub fresh_group : List ℕ → Group
-fresh_group name = record { name = name; member = None; generation = pos 0; assignment = None; offsets = [] }
+fresh_group name =
+    record { name = name; member = None; generation = pos 0; assignment = None; offsets = [] }
 
 abbrev pub is_empty : List ℕ → Bool
 is_empty text = nat_eq (length text) 0
@@ -33,7 +34,8 @@ has_id id (Some m) = bytes_eq m.id id
 abbrev pub is_member : Group → List ℕ → Bool
 is_member g id = has_id id g.member
 
--- why a call of a member of a generation is refused: it is not the member, or the generation is another
+-- why a call of a member of a generation is refused: it is not the member, or the generation is
+-- another
 abbrev pub member_refusal : Group → ℤ → List ℕ → Option ErrorCode
 member_refusal g generation member =
     if not (is_member g member) then Some UnknownMemberId else
@@ -41,21 +43,29 @@ member_refusal g generation member =
 
 -- the group once it has heard from its member
 abbrev pub heard_at : ℕ → Group → Group
-heard_at moment g = record g { member = option_map (λ (m : Member). record m { heard = moment }) g.member }
+heard_at moment g =
+    record g { member = option_map (λ (m : Member). record m { heard = moment }) g.member }
 
 -- ---- SyncGroup
 
 -- the first assignment for the member, or nothing at all
 abbrev pub given_to : List ℕ → List MemberAssignment → List ℕ
-given_to member gs = unwrap_or (option_map (λ (g : MemberAssignment). g.assignment) (find (λ g. bytes_eq g.member member) gs)) []
+given_to member gs =
+    unwrap_or
+    (option_map (λ (g : MemberAssignment). g.assignment)
+    (find (λ g. bytes_eq g.member member) gs))
+    []
 
 -- the assignment that is stored, or where a sync is awaited the one that this sync brings
 abbrev pub assignment_of : Group → SyncGroupRequest → List ℕ
 assignment_of g request = unwrap_or g.assignment (given_to request.member request.assignments)
 
-abbrev pub sync_transition : Option ErrorCode → Group → SyncGroupRequest → ℕ → GroupTransition (List ℕ)
+abbrev pub sync_transition : Option ErrorCode → Group → SyncGroupRequest → ℕ
+    → GroupTransition (List ℕ)
 sync_transition (Some code) g request moment = Stays code
-sync_transition None g request moment = Puts (assignment_of g request) (record (heard_at moment g) { assignment = Some (assignment_of g request) })
+sync_transition None g request moment =
+    Puts (assignment_of g request)
+    (record (heard_at moment g) { assignment = Some (assignment_of g request) })
 
 abbrev pub sync_group : Group → SyncGroupRequest → ℕ → GroupTransition (List ℕ)
 sync_group g request moment =
@@ -108,7 +118,8 @@ or_awaited None (Some assignment) = None
 
 abbrev pub commit_refusal : Group → ℤ → List ℕ → Option ErrorCode
 commit_refusal g generation member =
-    if is_unmanaged generation member then (if is_some g.member then Some UnknownMemberId else None) else
+    if is_unmanaged generation member then (if is_some g.member then Some UnknownMemberId else None)
+    else
     or_awaited (member_refusal g generation member) g.assignment
 
 abbrev pub with_event : OffsetEvent → Group → Group
@@ -124,7 +135,9 @@ commit_group g generation member o = event_transition (commit_refusal g generati
 -- ---- TxnOffsetCommit
 
 abbrev pub stage_refusal : Group → ℤ → List ℕ → Option ErrorCode
-stage_refusal g generation member = if is_unmanaged generation member then None else member_refusal g generation member
+stage_refusal g generation member =
+    if is_unmanaged generation member then None else member_refusal g generation member
 
 abbrev pub stage_group : Group → ℤ → ℤ → List ℕ → PartitionOffset → GroupTransition (Unit {0})
-stage_group g producer generation member o = event_transition (stage_refusal g generation member) g (Stage producer o)
+stage_group g producer generation member o =
+    event_transition (stage_refusal g generation member) g (Stage producer o)

@@ -1,5 +1,6 @@
--- The groups in the order of their beginning, and what each call on one of them comes to. A group begins with the first
--- call that changes it; until then it is as if nobody joined and nothing was committed.
+-- The groups in the order of their beginning, and what each call on one of them comes to. A group
+-- begins with the first call that changes it; until then it is as if nobody joined and nothing was
+-- committed.
 use Rattle.std.specs.Prelude.{ℕ, ℤ, ◌+◌, List, [], ◌∷◌, if◌then◌else◌, Option, Some, None, unwrap_or}
 use Rattle.std.specs.Option.{option_map}
 use Rattle.std.specs.List.{find}
@@ -54,8 +55,10 @@ leave gs request = leave_group (group_of gs request.group) request
 abbrev pub commit : List Group → List ℕ → ℤ → List ℕ → PartitionOffset → GroupTransition (Unit {0})
 commit gs name generation member o = commit_group (group_of gs name) generation member o
 
-abbrev pub stage : List Group → List ℕ → ℤ → ℤ → List ℕ → PartitionOffset → GroupTransition (Unit {0})
-stage gs name producer generation member o = stage_group (group_of gs name) producer generation member o
+abbrev pub stage : List Group → List ℕ → ℤ → ℤ → List ℕ → PartitionOffset
+    → GroupTransition (Unit {0})
+stage gs name producer generation member o =
+    stage_group (group_of gs name) producer generation member o
 
 -- what the producer staged for the group is decided
 abbrev pub decide : List Group → List ℕ → ℤ → TransactionResult → GroupTransition (Unit {0})
@@ -69,4 +72,5 @@ unknown_group_error name = if is_empty name then InvalidGroupId else UnknownMemb
 
 abbrev pub place_of : List Group → List ℕ → Option ℕ
 place_of [] name = None
-place_of (g ∷ gs) name = if bytes_eq g.name name then Some 0 else option_map (λ i. i + 1) (place_of gs name)
+place_of (g ∷ gs) name =
+    if bytes_eq g.name name then Some 0 else option_map (λ i. i + 1) (place_of gs name)

@@ -9,5 +9,6 @@ AreKeyed key [] = Unit {0}
 AreKeyed key (e ∷ es) = (string_bytes e.0 ≡ key e.1) × AreKeyed key es
 
 -- each value changed, under the key that it has
-abbrev pub each_changed : {V : Type 0} → (V → V) → List (String Global × V) → List (String Global × V)
+abbrev pub each_changed : {V : Type 0} → (V → V) → List (String Global × V)
+    → List (String Global × V)
 each_changed change es = map (λ e. (e.0, change e.1)) es

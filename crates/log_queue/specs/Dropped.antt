@@ -3,4 +3,5 @@ use Rattle.std.specs.Prelude.{ℕ, ◌++◌, List, codes, decimal}
 
 -- the line that tells how many were left out
 abbrev pub dropped_line : ℕ → List ℕ
-dropped_line count = codes "kbroker: lines left out, since nobody read them in time: " ++ decimal count ++ codes "\n"
+dropped_line count =
+    codes "kbroker: lines left out, since nobody read them in time: " ++ decimal count ++ codes "\n"

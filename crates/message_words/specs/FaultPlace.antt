@@ -14,7 +14,8 @@ tells_short found = false
 abbrev pub is_short : List ℕ → Bool
 is_short bytes = tells_short (request_at bytes)
 
--- So many bytes from the front tell what a frame is, unless they are all that there are; with one byte less they are too few.
+-- So many bytes from the front tell what a frame is, unless they are all that there are; with one
+-- byte less they are too few.
 pub record IsFaultEnd (bytes : List ℕ) (end : ℕ) : Type 0 where
   pub within : end ≤ length bytes
   pub told : end < length bytes → is_short (take end bytes) ≡ false

@@ -1,4 +1,5 @@
--- The grammars of the CreateAcls messages, version 1 (Kafka protocol guide, "CreateAcls API (Key: 30)").
+-- The grammars of the CreateAcls messages, version 1 (Kafka protocol guide, "CreateAcls API (Key:
+-- 30)").
 use Rattle.std.specs.Prelude.{ℕ, List, refl}
 use Rattle.std.specs.List.{flat_map}
 use Rattle.wire_types.specs.Grammar.{Grammar}

@@ -1,4 +1,5 @@
--- The grammars of the DeleteAcls messages, version 1 (Kafka protocol guide, "DeleteAcls API (Key: 31)").
+-- The grammars of the DeleteAcls messages, version 1 (Kafka protocol guide, "DeleteAcls API (Key:
+-- 31)").
 use Rattle.std.specs.Prelude.{ℕ, List, ◌++◌, refl}
 use Rattle.std.specs.List.{flat_map}
 use Rattle.wire_types.specs.Grammar.{Grammar}

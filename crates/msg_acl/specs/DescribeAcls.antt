@@ -1,4 +1,5 @@
--- The grammars of the DescribeAcls messages, version 1 (Kafka protocol guide, "DescribeAcls API (Key: 29)").
+-- The grammars of the DescribeAcls messages, version 1 (Kafka protocol guide, "DescribeAcls API
+-- (Key: 29)").
 use Rattle.std.specs.Prelude.{ℕ, List, [], ◌∷◌, ◌++◌, refl}
 use Rattle.std.specs.List.{flat_map}
 use Rattle.wire_types.specs.Grammar.{Grammar}
@@ -23,7 +24,8 @@ describe_acls_request = struct
 -- acls => principal host operation permission_type
 abbrev pub described_acl : Grammar DescribedAcl
 described_acl = struct
-    (λ (principal, (host, (operation, permission))). record { principal = principal; host = host; operation = operation; permission = permission })
+    (λ (principal, (host, (operation, permission))).
+    record { principal = principal; host = host; operation = operation; permission = permission })
     (λ d. (d.principal, (d.host, (d.operation, d.permission))))
     (λ x. refl) (λ d. refl)
     (string  -- principal
@@ -34,7 +36,8 @@ described_acl = struct
 -- resources => resource_type resource_name pattern_type [acls]
 abbrev pub described_resource : Grammar DescribedResource
 described_resource = struct
-    (λ (kind, (name, (pattern, acls))). record { kind = kind; name = name; pattern = pattern; acls = acls })
+    (λ (kind, (name, (pattern, acls))).
+    record { kind = kind; name = name; pattern = pattern; acls = acls })
     (λ d. (d.kind, (d.name, (d.pattern, d.acls))))
     (λ x. refl) (λ d. refl)
     (int8  -- resource_type
@@ -45,7 +48,8 @@ described_resource = struct
 -- DescribeAcls Response => throttle_time_ms error_code error_message [resources]
 abbrev pub describe_acls_reply : Grammar DescribeAclsReply
 describe_acls_reply = struct
-    (λ (throttle, (error, (message, resources))). record { throttle = throttle; error = error; message = message; resources = resources })
+    (λ (throttle, (error, (message, resources))).
+    record { throttle = throttle; error = error; message = message; resources = resources })
     (λ d. (d.throttle, (d.error, (d.message, d.resources))))
     (λ x. refl) (λ d. refl)
     (int32  -- throttle_time_ms

@@ -27,6 +27,7 @@ unfoldable pub api_at : ℤ → ℤ → Option Api
 api_at number version = option_and_then (λ key. api_if_served key version) (key_at number)
 
 -- each api is served under its own number in each of its versions
-pub api_at-own : (key : ApiKey) (version : ℤ) → is_served key version ≡ true → api_at (number_of key) version ≡ Some (api_in key version)
+pub api_at-own : (key : ApiKey) (version : ℤ) → is_served key version ≡ true
+    → api_at (number_of key) version ≡ Some (api_in key version)
 unfolding api_at
 api_at-own key version served = rw (key_at-own key, served) refl

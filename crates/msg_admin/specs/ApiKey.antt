@@ -1,5 +1,6 @@
--- The apis that are served, and the table of them (Kafka protocol guide, "Api Keys"). From the first flexible version on the
--- messages of an api have tagged sections (KIP-482, "The Kafka Protocol should Support Optional Tagged Fields").
+-- The apis that are served, and the table of them (Kafka protocol guide, "Api Keys"). From the
+-- first flexible version on the messages of an api have tagged sections (KIP-482, "The Kafka
+-- Protocol should Support Optional Tagged Fields").
 use Rattle.std.specs.Prelude.{◌≡◌, ℤ, pos, int_le, Bool, true, ◌&&◌, List, [], ◌∷◌, Option, Some, None, refl}
 use Rattle.std.specs.List.{find}
 use Rattle.std.specs.Ordering.{int_eq}
@@ -14,7 +15,8 @@ pub record VersionedKey : Type 0 where
 
 -- number, first and last version, and the first flexible one
 abbrev pub row : ℤ → ℤ → ℤ → Option ℤ → ServedApi
-row number first last flexible_from = record { number = number; first = first; last = last; flexible_from = flexible_from }
+row number first last flexible_from =
+    record { number = number; first = first; last = last; flexible_from = flexible_from }
 
 abbrev pub served_api : ApiKey → ServedApi
 served_api keys.Produce = row (pos 0) (pos 3) (pos 3) None
@@ -46,10 +48,16 @@ number_of key = (served_api key).number
 
 -- an api is served in each version from the first to the last
 abbrev pub is_served : ApiKey → ℤ → Bool
-is_served key version = int_le (served_api key).first version && int_le version (served_api key).last
+is_served key version =
+    int_le (served_api key).first version && int_le version (served_api key).last
 
 unfoldable pub all_keys : List ApiKey
-all_keys = keys.Produce ∷ keys.Fetch ∷ keys.ListOffsets ∷ keys.Metadata ∷ keys.OffsetCommit ∷ keys.OffsetFetch ∷ keys.FindCoordinator ∷ keys.JoinGroup ∷ keys.Heartbeat ∷ keys.LeaveGroup ∷ keys.SyncGroup ∷ keys.SaslHandshake ∷ keys.ApiVersions ∷ keys.InitProducerId ∷ keys.AddPartitionsToTxn ∷ keys.AddOffsetsToTxn ∷ keys.EndTxn ∷ keys.TxnOffsetCommit ∷ keys.DescribeAcls ∷ keys.CreateAcls ∷ keys.DeleteAcls ∷ keys.SaslAuthenticate ∷ []
+all_keys =
+    keys.Produce ∷ keys.Fetch ∷ keys.ListOffsets ∷ keys.Metadata ∷ keys.OffsetCommit
+    ∷ keys.OffsetFetch ∷ keys.FindCoordinator ∷ keys.JoinGroup ∷ keys.Heartbeat ∷ keys.LeaveGroup
+    ∷ keys.SyncGroup ∷ keys.SaslHandshake ∷ keys.ApiVersions ∷ keys.InitProducerId
+    ∷ keys.AddPartitionsToTxn ∷ keys.AddOffsetsToTxn ∷ keys.EndTxn ∷ keys.TxnOffsetCommit
+    ∷ keys.DescribeAcls ∷ keys.CreateAcls ∷ keys.DeleteAcls ∷ keys.SaslAuthenticate ∷ []
 
 -- the api of a number
 unfoldable pub key_at : ℤ → Option ApiKey

@@ -77,7 +77,8 @@ use Rattle.msg_admin.specs.declared.reply.Reply.{Reply}
 use Rattle.msg_admin.specs.declared.reply.Reply.TheVariants as replies
 use Rattle.msg_admin.specs.Api.{api_in, in_last_version}
 
--- the api that a request asks: an EndTxn in its version, and each other api in the last, which is the only one
+-- the api that a request asks: an EndTxn in its version, and each other api in the last, which is
+-- the only one
 abbrev pub api_of : Request → Api
 api_of (requests.Produce r) = in_last_version keys.Produce
 api_of (requests.Fetch r) = in_last_version keys.Fetch
@@ -102,7 +103,8 @@ api_of (requests.CreateAcls r) = in_last_version keys.CreateAcls
 api_of (requests.DeleteAcls r) = in_last_version keys.DeleteAcls
 api_of (requests.SaslAuthenticate r) = in_last_version keys.SaslAuthenticate
 
--- the api whose answer a reply is sent as, in its version, if it is sent; what is no answer to a request is not
+-- the api whose answer a reply is sent as, in its version, if it is sent; what is no answer to a
+-- request is not
 abbrev pub sent_as : Reply → Option Api
 sent_as (replies.Produce r) = Some (in_last_version keys.Produce)
 sent_as (replies.SilentProduce r) = None
@@ -166,7 +168,8 @@ abbrev pub asked_produce : Request → Option ProduceRequest
 asked_produce (requests.Produce r) = Some r
 asked_produce _ = None
 
-pub produce-asked : (r : Request) (x : ProduceRequest) → asked_produce r ≡ Some x → requests.Produce x ≡ r
+pub produce-asked : (r : Request) (x : ProduceRequest) → asked_produce r ≡ Some x
+    → requests.Produce x ≡ r
 produce-asked (requests.Produce y) x e = cc
 produce-asked _ x e = absurd cc
 
@@ -174,7 +177,8 @@ abbrev pub answered_produce : Reply → Option ProduceReply
 answered_produce (replies.Produce r) = Some r
 answered_produce _ = None
 
-pub produce-answered : (r : Reply) (x : ProduceReply) → answered_produce r ≡ Some x → replies.Produce x ≡ r
+pub produce-answered : (r : Reply) (x : ProduceReply) → answered_produce r ≡ Some x
+    → replies.Produce x ≡ r
 produce-answered (replies.Produce y) x e = cc
 produce-answered _ x e = absurd cc
 
@@ -202,7 +206,8 @@ abbrev pub asked_list_offsets : Request → Option ListOffsetsRequest
 asked_list_offsets (requests.ListOffsets r) = Some r
 asked_list_offsets _ = None
 
-pub list_offsets-asked : (r : Request) (x : ListOffsetsRequest) → asked_list_offsets r ≡ Some x → requests.ListOffsets x ≡ r
+pub list_offsets-asked : (r : Request) (x : ListOffsetsRequest) → asked_list_offsets r ≡ Some x
+    → requests.ListOffsets x ≡ r
 list_offsets-asked (requests.ListOffsets y) x e = cc
 list_offsets-asked _ x e = absurd cc
 
@@ -210,7 +215,8 @@ abbrev pub answered_list_offsets : Reply → Option ListOffsetsReply
 answered_list_offsets (replies.ListOffsets r) = Some r
 answered_list_offsets _ = None
 
-pub list_offsets-answered : (r : Reply) (x : ListOffsetsReply) → answered_list_offsets r ≡ Some x → replies.ListOffsets x ≡ r
+pub list_offsets-answered : (r : Reply) (x : ListOffsetsReply) → answered_list_offsets r ≡ Some x
+    → replies.ListOffsets x ≡ r
 list_offsets-answered (replies.ListOffsets y) x e = cc
 list_offsets-answered _ x e = absurd cc
 
@@ -220,7 +226,8 @@ abbrev pub asked_metadata : Request → Option MetadataRequest
 asked_metadata (requests.Metadata r) = Some r
 asked_metadata _ = None
 
-pub metadata-asked : (r : Request) (x : MetadataRequest) → asked_metadata r ≡ Some x → requests.Metadata x ≡ r
+pub metadata-asked : (r : Request) (x : MetadataRequest) → asked_metadata r ≡ Some x
+    → requests.Metadata x ≡ r
 metadata-asked (requests.Metadata y) x e = cc
 metadata-asked _ x e = absurd cc
 
@@ -228,7 +235,8 @@ abbrev pub answered_metadata : Reply → Option MetadataReply
 answered_metadata (replies.Metadata r) = Some r
 answered_metadata _ = None
 
-pub metadata-answered : (r : Reply) (x : MetadataReply) → answered_metadata r ≡ Some x → replies.Metadata x ≡ r
+pub metadata-answered : (r : Reply) (x : MetadataReply) → answered_metadata r ≡ Some x
+    → replies.Metadata x ≡ r
 metadata-answered (replies.Metadata y) x e = cc
 metadata-answered _ x e = absurd cc
 
@@ -238,7 +246,8 @@ abbrev pub asked_offset_commit : Request → Option OffsetCommitRequest
 asked_offset_commit (requests.OffsetCommit r) = Some r
 asked_offset_commit _ = None
 
-pub offset_commit-asked : (r : Request) (x : OffsetCommitRequest) → asked_offset_commit r ≡ Some x → requests.OffsetCommit x ≡ r
+pub offset_commit-asked : (r : Request) (x : OffsetCommitRequest) → asked_offset_commit r ≡ Some x
+    → requests.OffsetCommit x ≡ r
 offset_commit-asked (requests.OffsetCommit y) x e = cc
 offset_commit-asked _ x e = absurd cc
 
@@ -246,7 +255,8 @@ abbrev pub answered_offset_commit : Reply → Option OffsetCommitReply
 answered_offset_commit (replies.OffsetCommit r) = Some r
 answered_offset_commit _ = None
 
-pub offset_commit-answered : (r : Reply) (x : OffsetCommitReply) → answered_offset_commit r ≡ Some x → replies.OffsetCommit x ≡ r
+pub offset_commit-answered : (r : Reply) (x : OffsetCommitReply) → answered_offset_commit r ≡ Some x
+    → replies.OffsetCommit x ≡ r
 offset_commit-answered (replies.OffsetCommit y) x e = cc
 offset_commit-answered _ x e = absurd cc
 
@@ -256,7 +266,8 @@ abbrev pub asked_offset_fetch : Request → Option OffsetFetchRequest
 asked_offset_fetch (requests.OffsetFetch r) = Some r
 asked_offset_fetch _ = None
 
-pub offset_fetch-asked : (r : Request) (x : OffsetFetchRequest) → asked_offset_fetch r ≡ Some x → requests.OffsetFetch x ≡ r
+pub offset_fetch-asked : (r : Request) (x : OffsetFetchRequest) → asked_offset_fetch r ≡ Some x
+    → requests.OffsetFetch x ≡ r
 offset_fetch-asked (requests.OffsetFetch y) x e = cc
 offset_fetch-asked _ x e = absurd cc
 
@@ -264,7 +275,8 @@ abbrev pub answered_offset_fetch : Reply → Option OffsetFetchReply
 answered_offset_fetch (replies.OffsetFetch r) = Some r
 answered_offset_fetch _ = None
 
-pub offset_fetch-answered : (r : Reply) (x : OffsetFetchReply) → answered_offset_fetch r ≡ Some x → replies.OffsetFetch x ≡ r
+pub offset_fetch-answered : (r : Reply) (x : OffsetFetchReply) → answered_offset_fetch r ≡ Some x
+    → replies.OffsetFetch x ≡ r
 offset_fetch-answered (replies.OffsetFetch y) x e = cc
 offset_fetch-answered _ x e = absurd cc
 
@@ -274,7 +286,8 @@ abbrev pub asked_find_coordinator : Request → Option FindCoordinatorRequest
 asked_find_coordinator (requests.FindCoordinator r) = Some r
 asked_find_coordinator _ = None
 
-pub find_coordinator-asked : (r : Request) (x : FindCoordinatorRequest) → asked_find_coordinator r ≡ Some x → requests.FindCoordinator x ≡ r
+pub find_coordinator-asked : (r : Request) (x : FindCoordinatorRequest)
+    → asked_find_coordinator r ≡ Some x → requests.FindCoordinator x ≡ r
 find_coordinator-asked (requests.FindCoordinator y) x e = cc
 find_coordinator-asked _ x e = absurd cc
 
@@ -282,7 +295,8 @@ abbrev pub answered_find_coordinator : Reply → Option FindCoordinatorReply
 answered_find_coordinator (replies.FindCoordinator r) = Some r
 answered_find_coordinator _ = None
 
-pub find_coordinator-answered : (r : Reply) (x : FindCoordinatorReply) → answered_find_coordinator r ≡ Some x → replies.FindCoordinator x ≡ r
+pub find_coordinator-answered : (r : Reply) (x : FindCoordinatorReply)
+    → answered_find_coordinator r ≡ Some x → replies.FindCoordinator x ≡ r
 find_coordinator-answered (replies.FindCoordinator y) x e = cc
 find_coordinator-answered _ x e = absurd cc
 
@@ -292,7 +306,8 @@ abbrev pub asked_join_group : Request → Option JoinGroupRequest
 asked_join_group (requests.JoinGroup r) = Some r
 asked_join_group _ = None
 
-pub join_group-asked : (r : Request) (x : JoinGroupRequest) → asked_join_group r ≡ Some x → requests.JoinGroup x ≡ r
+pub join_group-asked : (r : Request) (x : JoinGroupRequest) → asked_join_group r ≡ Some x
+    → requests.JoinGroup x ≡ r
 join_group-asked (requests.JoinGroup y) x e = cc
 join_group-asked _ x e = absurd cc
 
@@ -300,7 +315,8 @@ abbrev pub answered_join_group : Reply → Option JoinGroupReply
 answered_join_group (replies.JoinGroup r) = Some r
 answered_join_group _ = None
 
-pub join_group-answered : (r : Reply) (x : JoinGroupReply) → answered_join_group r ≡ Some x → replies.JoinGroup x ≡ r
+pub join_group-answered : (r : Reply) (x : JoinGroupReply) → answered_join_group r ≡ Some x
+    → replies.JoinGroup x ≡ r
 join_group-answered (replies.JoinGroup y) x e = cc
 join_group-answered _ x e = absurd cc
 
@@ -310,7 +326,8 @@ abbrev pub asked_heartbeat : Request → Option HeartbeatRequest
 asked_heartbeat (requests.Heartbeat r) = Some r
 asked_heartbeat _ = None
 
-pub heartbeat-asked : (r : Request) (x : HeartbeatRequest) → asked_heartbeat r ≡ Some x → requests.Heartbeat x ≡ r
+pub heartbeat-asked : (r : Request) (x : HeartbeatRequest) → asked_heartbeat r ≡ Some x
+    → requests.Heartbeat x ≡ r
 heartbeat-asked (requests.Heartbeat y) x e = cc
 heartbeat-asked _ x e = absurd cc
 
@@ -318,7 +335,8 @@ abbrev pub answered_heartbeat : Reply → Option HeartbeatReply
 answered_heartbeat (replies.Heartbeat r) = Some r
 answered_heartbeat _ = None
 
-pub heartbeat-answered : (r : Reply) (x : HeartbeatReply) → answered_heartbeat r ≡ Some x → replies.Heartbeat x ≡ r
+pub heartbeat-answered : (r : Reply) (x : HeartbeatReply) → answered_heartbeat r ≡ Some x
+    → replies.Heartbeat x ≡ r
 heartbeat-answered (replies.Heartbeat y) x e = cc
 heartbeat-answered _ x e = absurd cc
 
@@ -328,7 +346,8 @@ abbrev pub asked_leave_group : Request → Option LeaveGroupRequest
 asked_leave_group (requests.LeaveGroup r) = Some r
 asked_leave_group _ = None
 
-pub leave_group-asked : (r : Request) (x : LeaveGroupRequest) → asked_leave_group r ≡ Some x → requests.LeaveGroup x ≡ r
+pub leave_group-asked : (r : Request) (x : LeaveGroupRequest) → asked_leave_group r ≡ Some x
+    → requests.LeaveGroup x ≡ r
 leave_group-asked (requests.LeaveGroup y) x e = cc
 leave_group-asked _ x e = absurd cc
 
@@ -336,7 +355,8 @@ abbrev pub answered_leave_group : Reply → Option LeaveGroupReply
 answered_leave_group (replies.LeaveGroup r) = Some r
 answered_leave_group _ = None
 
-pub leave_group-answered : (r : Reply) (x : LeaveGroupReply) → answered_leave_group r ≡ Some x → replies.LeaveGroup x ≡ r
+pub leave_group-answered : (r : Reply) (x : LeaveGroupReply) → answered_leave_group r ≡ Some x
+    → replies.LeaveGroup x ≡ r
 leave_group-answered (replies.LeaveGroup y) x e = cc
 leave_group-answered _ x e = absurd cc
 
@@ -346,7 +366,8 @@ abbrev pub asked_sync_group : Request → Option SyncGroupRequest
 asked_sync_group (requests.SyncGroup r) = Some r
 asked_sync_group _ = None
 
-pub sync_group-asked : (r : Request) (x : SyncGroupRequest) → asked_sync_group r ≡ Some x → requests.SyncGroup x ≡ r
+pub sync_group-asked : (r : Request) (x : SyncGroupRequest) → asked_sync_group r ≡ Some x
+    → requests.SyncGroup x ≡ r
 sync_group-asked (requests.SyncGroup y) x e = cc
 sync_group-asked _ x e = absurd cc
 
@@ -354,7 +375,8 @@ abbrev pub answered_sync_group : Reply → Option SyncGroupReply
 answered_sync_group (replies.SyncGroup r) = Some r
 answered_sync_group _ = None
 
-pub sync_group-answered : (r : Reply) (x : SyncGroupReply) → answered_sync_group r ≡ Some x → replies.SyncGroup x ≡ r
+pub sync_group-answered : (r : Reply) (x : SyncGroupReply) → answered_sync_group r ≡ Some x
+    → replies.SyncGroup x ≡ r
 sync_group-answered (replies.SyncGroup y) x e = cc
 sync_group-answered _ x e = absurd cc
 
@@ -364,7 +386,8 @@ abbrev pub asked_sasl_handshake : Request → Option SaslHandshakeRequest
 asked_sasl_handshake (requests.SaslHandshake r) = Some r
 asked_sasl_handshake _ = None
 
-pub sasl_handshake-asked : (r : Request) (x : SaslHandshakeRequest) → asked_sasl_handshake r ≡ Some x → requests.SaslHandshake x ≡ r
+pub sasl_handshake-asked : (r : Request) (x : SaslHandshakeRequest)
+    → asked_sasl_handshake r ≡ Some x → requests.SaslHandshake x ≡ r
 sasl_handshake-asked (requests.SaslHandshake y) x e = cc
 sasl_handshake-asked _ x e = absurd cc
 
@@ -372,7 +395,8 @@ abbrev pub answered_sasl_handshake : Reply → Option SaslHandshakeReply
 answered_sasl_handshake (replies.SaslHandshake r) = Some r
 answered_sasl_handshake _ = None
 
-pub sasl_handshake-answered : (r : Reply) (x : SaslHandshakeReply) → answered_sasl_handshake r ≡ Some x → replies.SaslHandshake x ≡ r
+pub sasl_handshake-answered : (r : Reply) (x : SaslHandshakeReply)
+    → answered_sasl_handshake r ≡ Some x → replies.SaslHandshake x ≡ r
 sasl_handshake-answered (replies.SaslHandshake y) x e = cc
 sasl_handshake-answered _ x e = absurd cc
 
@@ -390,7 +414,8 @@ abbrev pub answered_api_versions : Reply → Option ApiVersionsReply
 answered_api_versions (replies.ApiVersions r) = Some r
 answered_api_versions _ = None
 
-pub api_versions-answered : (r : Reply) (x : ApiVersionsReply) → answered_api_versions r ≡ Some x → replies.ApiVersions x ≡ r
+pub api_versions-answered : (r : Reply) (x : ApiVersionsReply) → answered_api_versions r ≡ Some x
+    → replies.ApiVersions x ≡ r
 api_versions-answered (replies.ApiVersions y) x e = cc
 api_versions-answered _ x e = absurd cc
 
@@ -400,7 +425,8 @@ abbrev pub asked_init_producer_id : Request → Option InitProducerIdRequest
 asked_init_producer_id (requests.InitProducerId r) = Some r
 asked_init_producer_id _ = None
 
-pub init_producer_id-asked : (r : Request) (x : InitProducerIdRequest) → asked_init_producer_id r ≡ Some x → requests.InitProducerId x ≡ r
+pub init_producer_id-asked : (r : Request) (x : InitProducerIdRequest)
+    → asked_init_producer_id r ≡ Some x → requests.InitProducerId x ≡ r
 init_producer_id-asked (requests.InitProducerId y) x e = cc
 init_producer_id-asked _ x e = absurd cc
 
@@ -408,7 +434,8 @@ abbrev pub answered_init_producer_id : Reply → Option InitProducerIdReply
 answered_init_producer_id (replies.InitProducerId r) = Some r
 answered_init_producer_id _ = None
 
-pub init_producer_id-answered : (r : Reply) (x : InitProducerIdReply) → answered_init_producer_id r ≡ Some x → replies.InitProducerId x ≡ r
+pub init_producer_id-answered : (r : Reply) (x : InitProducerIdReply)
+    → answered_init_producer_id r ≡ Some x → replies.InitProducerId x ≡ r
 init_producer_id-answered (replies.InitProducerId y) x e = cc
 init_producer_id-answered _ x e = absurd cc
 
@@ -418,7 +445,8 @@ abbrev pub asked_add_partitions_to_txn : Request → Option AddPartitionsToTxnRe
 asked_add_partitions_to_txn (requests.AddPartitionsToTxn r) = Some r
 asked_add_partitions_to_txn _ = None
 
-pub add_partitions_to_txn-asked : (r : Request) (x : AddPartitionsToTxnRequest) → asked_add_partitions_to_txn r ≡ Some x → requests.AddPartitionsToTxn x ≡ r
+pub add_partitions_to_txn-asked : (r : Request) (x : AddPartitionsToTxnRequest)
+    → asked_add_partitions_to_txn r ≡ Some x → requests.AddPartitionsToTxn x ≡ r
 add_partitions_to_txn-asked (requests.AddPartitionsToTxn y) x e = cc
 add_partitions_to_txn-asked _ x e = absurd cc
 
@@ -426,7 +454,8 @@ abbrev pub answered_add_partitions_to_txn : Reply → Option AddPartitionsToTxnR
 answered_add_partitions_to_txn (replies.AddPartitionsToTxn r) = Some r
 answered_add_partitions_to_txn _ = None
 
-pub add_partitions_to_txn-answered : (r : Reply) (x : AddPartitionsToTxnReply) → answered_add_partitions_to_txn r ≡ Some x → replies.AddPartitionsToTxn x ≡ r
+pub add_partitions_to_txn-answered : (r : Reply) (x : AddPartitionsToTxnReply)
+    → answered_add_partitions_to_txn r ≡ Some x → replies.AddPartitionsToTxn x ≡ r
 add_partitions_to_txn-answered (replies.AddPartitionsToTxn y) x e = cc
 add_partitions_to_txn-answered _ x e = absurd cc
 
@@ -436,7 +465,8 @@ abbrev pub asked_add_offsets_to_txn : Request → Option AddOffsetsToTxnRequest
 asked_add_offsets_to_txn (requests.AddOffsetsToTxn r) = Some r
 asked_add_offsets_to_txn _ = None
 
-pub add_offsets_to_txn-asked : (r : Request) (x : AddOffsetsToTxnRequest) → asked_add_offsets_to_txn r ≡ Some x → requests.AddOffsetsToTxn x ≡ r
+pub add_offsets_to_txn-asked : (r : Request) (x : AddOffsetsToTxnRequest)
+    → asked_add_offsets_to_txn r ≡ Some x → requests.AddOffsetsToTxn x ≡ r
 add_offsets_to_txn-asked (requests.AddOffsetsToTxn y) x e = cc
 add_offsets_to_txn-asked _ x e = absurd cc
 
@@ -444,7 +474,8 @@ abbrev pub answered_add_offsets_to_txn : Reply → Option AddOffsetsToTxnReply
 answered_add_offsets_to_txn (replies.AddOffsetsToTxn r) = Some r
 answered_add_offsets_to_txn _ = None
 
-pub add_offsets_to_txn-answered : (r : Reply) (x : AddOffsetsToTxnReply) → answered_add_offsets_to_txn r ≡ Some x → replies.AddOffsetsToTxn x ≡ r
+pub add_offsets_to_txn-answered : (r : Reply) (x : AddOffsetsToTxnReply)
+    → answered_add_offsets_to_txn r ≡ Some x → replies.AddOffsetsToTxn x ≡ r
 add_offsets_to_txn-answered (replies.AddOffsetsToTxn y) x e = cc
 add_offsets_to_txn-answered _ x e = absurd cc
 
@@ -454,7 +485,8 @@ abbrev pub asked_end_txn : Request → Option EndTxnRequest
 asked_end_txn (requests.EndTxn r) = Some r
 asked_end_txn _ = None
 
-pub end_txn-asked : (r : Request) (x : EndTxnRequest) → asked_end_txn r ≡ Some x → requests.EndTxn x ≡ r
+pub end_txn-asked : (r : Request) (x : EndTxnRequest) → asked_end_txn r ≡ Some x
+    → requests.EndTxn x ≡ r
 end_txn-asked (requests.EndTxn y) x e = cc
 end_txn-asked _ x e = absurd cc
 
@@ -462,7 +494,8 @@ abbrev pub answered_end_txn : Reply → Option EndTxnReply
 answered_end_txn (replies.EndTxn r) = Some r
 answered_end_txn _ = None
 
-pub end_txn-answered : (r : Reply) (x : EndTxnReply) → answered_end_txn r ≡ Some x → replies.EndTxn x ≡ r
+pub end_txn-answered : (r : Reply) (x : EndTxnReply) → answered_end_txn r ≡ Some x
+    → replies.EndTxn x ≡ r
 end_txn-answered (replies.EndTxn y) x e = cc
 end_txn-answered _ x e = absurd cc
 
@@ -472,7 +505,8 @@ abbrev pub asked_txn_offset_commit : Request → Option TxnOffsetCommitRequest
 asked_txn_offset_commit (requests.TxnOffsetCommit r) = Some r
 asked_txn_offset_commit _ = None
 
-pub txn_offset_commit-asked : (r : Request) (x : TxnOffsetCommitRequest) → asked_txn_offset_commit r ≡ Some x → requests.TxnOffsetCommit x ≡ r
+pub txn_offset_commit-asked : (r : Request) (x : TxnOffsetCommitRequest)
+    → asked_txn_offset_commit r ≡ Some x → requests.TxnOffsetCommit x ≡ r
 txn_offset_commit-asked (requests.TxnOffsetCommit y) x e = cc
 txn_offset_commit-asked _ x e = absurd cc
 
@@ -480,7 +514,8 @@ abbrev pub answered_txn_offset_commit : Reply → Option TxnOffsetCommitReply
 answered_txn_offset_commit (replies.TxnOffsetCommit r) = Some r
 answered_txn_offset_commit _ = None
 
-pub txn_offset_commit-answered : (r : Reply) (x : TxnOffsetCommitReply) → answered_txn_offset_commit r ≡ Some x → replies.TxnOffsetCommit x ≡ r
+pub txn_offset_commit-answered : (r : Reply) (x : TxnOffsetCommitReply)
+    → answered_txn_offset_commit r ≡ Some x → replies.TxnOffsetCommit x ≡ r
 txn_offset_commit-answered (replies.TxnOffsetCommit y) x e = cc
 txn_offset_commit-answered _ x e = absurd cc
 
@@ -490,7 +525,8 @@ abbrev pub asked_describe_acls : Request → Option DescribeAclsRequest
 asked_describe_acls (requests.DescribeAcls r) = Some r
 asked_describe_acls _ = None
 
-pub describe_acls-asked : (r : Request) (x : DescribeAclsRequest) → asked_describe_acls r ≡ Some x → requests.DescribeAcls x ≡ r
+pub describe_acls-asked : (r : Request) (x : DescribeAclsRequest) → asked_describe_acls r ≡ Some x
+    → requests.DescribeAcls x ≡ r
 describe_acls-asked (requests.DescribeAcls y) x e = cc
 describe_acls-asked _ x e = absurd cc
 
@@ -498,7 +534,8 @@ abbrev pub answered_describe_acls : Reply → Option DescribeAclsReply
 answered_describe_acls (replies.DescribeAcls r) = Some r
 answered_describe_acls _ = None
 
-pub describe_acls-answered : (r : Reply) (x : DescribeAclsReply) → answered_describe_acls r ≡ Some x → replies.DescribeAcls x ≡ r
+pub describe_acls-answered : (r : Reply) (x : DescribeAclsReply) → answered_describe_acls r ≡ Some x
+    → replies.DescribeAcls x ≡ r
 describe_acls-answered (replies.DescribeAcls y) x e = cc
 describe_acls-answered _ x e = absurd cc
 
@@ -508,7 +545,8 @@ abbrev pub asked_create_acls : Request → Option CreateAclsRequest
 asked_create_acls (requests.CreateAcls r) = Some r
 asked_create_acls _ = None
 
-pub create_acls-asked : (r : Request) (x : CreateAclsRequest) → asked_create_acls r ≡ Some x → requests.CreateAcls x ≡ r
+pub create_acls-asked : (r : Request) (x : CreateAclsRequest) → asked_create_acls r ≡ Some x
+    → requests.CreateAcls x ≡ r
 create_acls-asked (requests.CreateAcls y) x e = cc
 create_acls-asked _ x e = absurd cc
 
@@ -516,7 +554,8 @@ abbrev pub answered_create_acls : Reply → Option CreateAclsReply
 answered_create_acls (replies.CreateAcls r) = Some r
 answered_create_acls _ = None
 
-pub create_acls-answered : (r : Reply) (x : CreateAclsReply) → answered_create_acls r ≡ Some x → replies.CreateAcls x ≡ r
+pub create_acls-answered : (r : Reply) (x : CreateAclsReply) → answered_create_acls r ≡ Some x
+    → replies.CreateAcls x ≡ r
 create_acls-answered (replies.CreateAcls y) x e = cc
 create_acls-answered _ x e = absurd cc
 
@@ -526,7 +565,8 @@ abbrev pub asked_delete_acls : Request → Option DeleteAclsRequest
 asked_delete_acls (requests.DeleteAcls r) = Some r
 asked_delete_acls _ = None
 
-pub delete_acls-asked : (r : Request) (x : DeleteAclsRequest) → asked_delete_acls r ≡ Some x → requests.DeleteAcls x ≡ r
+pub delete_acls-asked : (r : Request) (x : DeleteAclsRequest) → asked_delete_acls r ≡ Some x
+    → requests.DeleteAcls x ≡ r
 delete_acls-asked (requests.DeleteAcls y) x e = cc
 delete_acls-asked _ x e = absurd cc
 
@@ -534,7 +574,8 @@ abbrev pub answered_delete_acls : Reply → Option DeleteAclsReply
 answered_delete_acls (replies.DeleteAcls r) = Some r
 answered_delete_acls _ = None
 
-pub delete_acls-answered : (r : Reply) (x : DeleteAclsReply) → answered_delete_acls r ≡ Some x → replies.DeleteAcls x ≡ r
+pub delete_acls-answered : (r : Reply) (x : DeleteAclsReply) → answered_delete_acls r ≡ Some x
+    → replies.DeleteAcls x ≡ r
 delete_acls-answered (replies.DeleteAcls y) x e = cc
 delete_acls-answered _ x e = absurd cc
 
@@ -544,7 +585,8 @@ abbrev pub asked_sasl_authenticate : Request → Option SaslAuthenticateRequest
 asked_sasl_authenticate (requests.SaslAuthenticate r) = Some r
 asked_sasl_authenticate _ = None
 
-pub sasl_authenticate-asked : (r : Request) (x : SaslAuthenticateRequest) → asked_sasl_authenticate r ≡ Some x → requests.SaslAuthenticate x ≡ r
+pub sasl_authenticate-asked : (r : Request) (x : SaslAuthenticateRequest)
+    → asked_sasl_authenticate r ≡ Some x → requests.SaslAuthenticate x ≡ r
 sasl_authenticate-asked (requests.SaslAuthenticate y) x e = cc
 sasl_authenticate-asked _ x e = absurd cc
 
@@ -552,7 +594,8 @@ abbrev pub answered_sasl_authenticate : Reply → Option SaslAuthenticateReply
 answered_sasl_authenticate (replies.SaslAuthenticate r) = Some r
 answered_sasl_authenticate _ = None
 
-pub sasl_authenticate-answered : (r : Reply) (x : SaslAuthenticateReply) → answered_sasl_authenticate r ≡ Some x → replies.SaslAuthenticate x ≡ r
+pub sasl_authenticate-answered : (r : Reply) (x : SaslAuthenticateReply)
+    → answered_sasl_authenticate r ≡ Some x → replies.SaslAuthenticate x ≡ r
 sasl_authenticate-answered (replies.SaslAuthenticate y) x e = cc
 sasl_authenticate-answered _ x e = absurd cc
 
@@ -560,55 +603,146 @@ sasl_authenticate-answered _ x e = absurd cc
 
 -- in the form of a version
 abbrev pub request_form : ApiKey → ℤ → Body Request
-request_form keys.Produce version = body_of (variant requests.Produce asked_produce (λ x. refl) produce-asked produce_request)
-request_form keys.Fetch version = body_of (variant requests.Fetch asked_fetch (λ x. refl) fetch-asked fetch_request)
-request_form keys.ListOffsets version = body_of (variant requests.ListOffsets asked_list_offsets (λ x. refl) list_offsets-asked list_offsets_request)
-request_form keys.Metadata version = body_of (variant requests.Metadata asked_metadata (λ x. refl) metadata-asked metadata_request)
-request_form keys.OffsetCommit version = body_of (variant requests.OffsetCommit asked_offset_commit (λ x. refl) offset_commit-asked offset_commit_request)
-request_form keys.OffsetFetch version = body_of (variant requests.OffsetFetch asked_offset_fetch (λ x. refl) offset_fetch-asked offset_fetch_request)
-request_form keys.FindCoordinator version = body_of (variant requests.FindCoordinator asked_find_coordinator (λ x. refl) find_coordinator-asked find_coordinator_request)
-request_form keys.JoinGroup version = body_of (variant requests.JoinGroup asked_join_group (λ x. refl) join_group-asked join_group_request)
-request_form keys.Heartbeat version = body_of (variant requests.Heartbeat asked_heartbeat (λ x. refl) heartbeat-asked heartbeat_request)
-request_form keys.LeaveGroup version = body_of (variant requests.LeaveGroup asked_leave_group (λ x. refl) leave_group-asked leave_group_request)
-request_form keys.SyncGroup version = body_of (variant requests.SyncGroup asked_sync_group (λ x. refl) sync_group-asked sync_group_request)
-request_form keys.SaslHandshake version = body_of (variant requests.SaslHandshake asked_sasl_handshake (λ x. refl) sasl_handshake-asked sasl_handshake_request)
-request_form keys.ApiVersions version = empty_body requests.ApiVersions is_api_versions refl api_versions-only
-request_form keys.InitProducerId version = body_of (variant requests.InitProducerId asked_init_producer_id (λ x. refl) init_producer_id-asked init_producer_id_request)
-request_form keys.AddPartitionsToTxn version = body_of (variant requests.AddPartitionsToTxn asked_add_partitions_to_txn (λ x. refl) add_partitions_to_txn-asked add_partitions_to_txn_request)
-request_form keys.AddOffsetsToTxn version = body_of (variant requests.AddOffsetsToTxn asked_add_offsets_to_txn (λ x. refl) add_offsets_to_txn-asked add_offsets_to_txn_request)
-request_form keys.EndTxn version = body_of (variant requests.EndTxn asked_end_txn (λ x. refl) end_txn-asked (end_txn_request version))
-request_form keys.TxnOffsetCommit version = body_of (variant requests.TxnOffsetCommit asked_txn_offset_commit (λ x. refl) txn_offset_commit-asked txn_offset_commit_request)
-request_form keys.DescribeAcls version = body_of (variant requests.DescribeAcls asked_describe_acls (λ x. refl) describe_acls-asked describe_acls_request)
-request_form keys.CreateAcls version = body_of (variant requests.CreateAcls asked_create_acls (λ x. refl) create_acls-asked create_acls_request)
-request_form keys.DeleteAcls version = body_of (variant requests.DeleteAcls asked_delete_acls (λ x. refl) delete_acls-asked delete_acls_request)
-request_form keys.SaslAuthenticate version = body_of (variant requests.SaslAuthenticate asked_sasl_authenticate (λ x. refl) sasl_authenticate-asked sasl_authenticate_request)
+request_form keys.Produce version =
+    body_of (variant requests.Produce asked_produce (λ x. refl) produce-asked produce_request)
+request_form keys.Fetch version =
+    body_of (variant requests.Fetch asked_fetch (λ x. refl) fetch-asked fetch_request)
+request_form keys.ListOffsets version =
+    body_of
+    (variant requests.ListOffsets asked_list_offsets (λ x. refl) list_offsets-asked
+    list_offsets_request)
+request_form keys.Metadata version =
+    body_of (variant requests.Metadata asked_metadata (λ x. refl) metadata-asked metadata_request)
+request_form keys.OffsetCommit version =
+    body_of
+    (variant requests.OffsetCommit asked_offset_commit (λ x. refl) offset_commit-asked
+    offset_commit_request)
+request_form keys.OffsetFetch version =
+    body_of
+    (variant requests.OffsetFetch asked_offset_fetch (λ x. refl) offset_fetch-asked
+    offset_fetch_request)
+request_form keys.FindCoordinator version =
+    body_of
+    (variant requests.FindCoordinator asked_find_coordinator (λ x. refl) find_coordinator-asked
+    find_coordinator_request)
+request_form keys.JoinGroup version =
+    body_of
+    (variant requests.JoinGroup asked_join_group (λ x. refl) join_group-asked join_group_request)
+request_form keys.Heartbeat version =
+    body_of
+    (variant requests.Heartbeat asked_heartbeat (λ x. refl) heartbeat-asked heartbeat_request)
+request_form keys.LeaveGroup version =
+    body_of
+    (variant requests.LeaveGroup asked_leave_group (λ x. refl) leave_group-asked
+    leave_group_request)
+request_form keys.SyncGroup version =
+    body_of
+    (variant requests.SyncGroup asked_sync_group (λ x. refl) sync_group-asked sync_group_request)
+request_form keys.SaslHandshake version =
+    body_of
+    (variant requests.SaslHandshake asked_sasl_handshake (λ x. refl) sasl_handshake-asked
+    sasl_handshake_request)
+request_form keys.ApiVersions version =
+    empty_body requests.ApiVersions is_api_versions refl api_versions-only
+request_form keys.InitProducerId version =
+    body_of
+    (variant requests.InitProducerId asked_init_producer_id (λ x. refl) init_producer_id-asked
+    init_producer_id_request)
+request_form keys.AddPartitionsToTxn version =
+    body_of
+    (variant requests.AddPartitionsToTxn asked_add_partitions_to_txn (λ x. refl)
+    add_partitions_to_txn-asked add_partitions_to_txn_request)
+request_form keys.AddOffsetsToTxn version =
+    body_of
+    (variant requests.AddOffsetsToTxn asked_add_offsets_to_txn (λ x. refl)
+    add_offsets_to_txn-asked add_offsets_to_txn_request)
+request_form keys.EndTxn version =
+    body_of
+    (variant requests.EndTxn asked_end_txn (λ x. refl) end_txn-asked (end_txn_request version))
+request_form keys.TxnOffsetCommit version =
+    body_of
+    (variant requests.TxnOffsetCommit asked_txn_offset_commit (λ x. refl) txn_offset_commit-asked
+    txn_offset_commit_request)
+request_form keys.DescribeAcls version =
+    body_of
+    (variant requests.DescribeAcls asked_describe_acls (λ x. refl) describe_acls-asked
+    describe_acls_request)
+request_form keys.CreateAcls version =
+    body_of
+    (variant requests.CreateAcls asked_create_acls (λ x. refl) create_acls-asked
+    create_acls_request)
+request_form keys.DeleteAcls version =
+    body_of
+    (variant requests.DeleteAcls asked_delete_acls (λ x. refl) delete_acls-asked
+    delete_acls_request)
+request_form keys.SaslAuthenticate version =
+    body_of
+    (variant requests.SaslAuthenticate asked_sasl_authenticate (λ x. refl) sasl_authenticate-asked
+    sasl_authenticate_request)
 
 unfoldable pub request_body : Api → Body Request
 request_body api = request_form api.key api.version
 
 abbrev pub reply_form : ApiKey → ℤ → Grammar Reply
-reply_form keys.Produce version = variant replies.Produce answered_produce (λ x. refl) produce-answered produce_reply
-reply_form keys.Fetch version = variant replies.Fetch answered_fetch (λ x. refl) fetch-answered fetch_reply
-reply_form keys.ListOffsets version = variant replies.ListOffsets answered_list_offsets (λ x. refl) list_offsets-answered list_offsets_reply
-reply_form keys.Metadata version = variant replies.Metadata answered_metadata (λ x. refl) metadata-answered metadata_reply
-reply_form keys.OffsetCommit version = variant replies.OffsetCommit answered_offset_commit (λ x. refl) offset_commit-answered offset_commit_reply
-reply_form keys.OffsetFetch version = variant replies.OffsetFetch answered_offset_fetch (λ x. refl) offset_fetch-answered offset_fetch_reply
-reply_form keys.FindCoordinator version = variant replies.FindCoordinator answered_find_coordinator (λ x. refl) find_coordinator-answered find_coordinator_reply
-reply_form keys.JoinGroup version = variant replies.JoinGroup answered_join_group (λ x. refl) join_group-answered join_group_reply
-reply_form keys.Heartbeat version = variant replies.Heartbeat answered_heartbeat (λ x. refl) heartbeat-answered heartbeat_reply
-reply_form keys.LeaveGroup version = variant replies.LeaveGroup answered_leave_group (λ x. refl) leave_group-answered leave_group_reply
-reply_form keys.SyncGroup version = variant replies.SyncGroup answered_sync_group (λ x. refl) sync_group-answered sync_group_reply
-reply_form keys.SaslHandshake version = variant replies.SaslHandshake answered_sasl_handshake (λ x. refl) sasl_handshake-answered sasl_handshake_reply
-reply_form keys.ApiVersions version = variant replies.ApiVersions answered_api_versions (λ x. refl) api_versions-answered api_versions_reply
-reply_form keys.InitProducerId version = variant replies.InitProducerId answered_init_producer_id (λ x. refl) init_producer_id-answered init_producer_id_reply
-reply_form keys.AddPartitionsToTxn version = variant replies.AddPartitionsToTxn answered_add_partitions_to_txn (λ x. refl) add_partitions_to_txn-answered add_partitions_to_txn_reply
-reply_form keys.AddOffsetsToTxn version = variant replies.AddOffsetsToTxn answered_add_offsets_to_txn (λ x. refl) add_offsets_to_txn-answered add_offsets_to_txn_reply
-reply_form keys.EndTxn version = variant replies.EndTxn answered_end_txn (λ x. refl) end_txn-answered (end_txn_reply version)
-reply_form keys.TxnOffsetCommit version = variant replies.TxnOffsetCommit answered_txn_offset_commit (λ x. refl) txn_offset_commit-answered txn_offset_commit_reply
-reply_form keys.DescribeAcls version = variant replies.DescribeAcls answered_describe_acls (λ x. refl) describe_acls-answered describe_acls_reply
-reply_form keys.CreateAcls version = variant replies.CreateAcls answered_create_acls (λ x. refl) create_acls-answered create_acls_reply
-reply_form keys.DeleteAcls version = variant replies.DeleteAcls answered_delete_acls (λ x. refl) delete_acls-answered delete_acls_reply
-reply_form keys.SaslAuthenticate version = variant replies.SaslAuthenticate answered_sasl_authenticate (λ x. refl) sasl_authenticate-answered sasl_authenticate_reply
+reply_form keys.Produce version =
+    variant replies.Produce answered_produce (λ x. refl) produce-answered produce_reply
+reply_form keys.Fetch version =
+    variant replies.Fetch answered_fetch (λ x. refl) fetch-answered fetch_reply
+reply_form keys.ListOffsets version =
+    variant replies.ListOffsets answered_list_offsets (λ x. refl) list_offsets-answered
+    list_offsets_reply
+reply_form keys.Metadata version =
+    variant replies.Metadata answered_metadata (λ x. refl) metadata-answered metadata_reply
+reply_form keys.OffsetCommit version =
+    variant replies.OffsetCommit answered_offset_commit (λ x. refl) offset_commit-answered
+    offset_commit_reply
+reply_form keys.OffsetFetch version =
+    variant replies.OffsetFetch answered_offset_fetch (λ x. refl) offset_fetch-answered
+    offset_fetch_reply
+reply_form keys.FindCoordinator version =
+    variant replies.FindCoordinator answered_find_coordinator (λ x. refl) find_coordinator-answered
+    find_coordinator_reply
+reply_form keys.JoinGroup version =
+    variant replies.JoinGroup answered_join_group (λ x. refl) join_group-answered join_group_reply
+reply_form keys.Heartbeat version =
+    variant replies.Heartbeat answered_heartbeat (λ x. refl) heartbeat-answered heartbeat_reply
+reply_form keys.LeaveGroup version =
+    variant replies.LeaveGroup answered_leave_group (λ x. refl) leave_group-answered
+    leave_group_reply
+reply_form keys.SyncGroup version =
+    variant replies.SyncGroup answered_sync_group (λ x. refl) sync_group-answered sync_group_reply
+reply_form keys.SaslHandshake version =
+    variant replies.SaslHandshake answered_sasl_handshake (λ x. refl) sasl_handshake-answered
+    sasl_handshake_reply
+reply_form keys.ApiVersions version =
+    variant replies.ApiVersions answered_api_versions (λ x. refl) api_versions-answered
+    api_versions_reply
+reply_form keys.InitProducerId version =
+    variant replies.InitProducerId answered_init_producer_id (λ x. refl) init_producer_id-answered
+    init_producer_id_reply
+reply_form keys.AddPartitionsToTxn version =
+    variant replies.AddPartitionsToTxn answered_add_partitions_to_txn (λ x. refl)
+    add_partitions_to_txn-answered add_partitions_to_txn_reply
+reply_form keys.AddOffsetsToTxn version =
+    variant replies.AddOffsetsToTxn answered_add_offsets_to_txn (λ x. refl)
+    add_offsets_to_txn-answered add_offsets_to_txn_reply
+reply_form keys.EndTxn version =
+    variant replies.EndTxn answered_end_txn (λ x. refl) end_txn-answered (end_txn_reply version)
+reply_form keys.TxnOffsetCommit version =
+    variant replies.TxnOffsetCommit answered_txn_offset_commit (λ x. refl)
+    txn_offset_commit-answered txn_offset_commit_reply
+reply_form keys.DescribeAcls version =
+    variant replies.DescribeAcls answered_describe_acls (λ x. refl) describe_acls-answered
+    describe_acls_reply
+reply_form keys.CreateAcls version =
+    variant replies.CreateAcls answered_create_acls (λ x. refl) create_acls-answered
+    create_acls_reply
+reply_form keys.DeleteAcls version =
+    variant replies.DeleteAcls answered_delete_acls (λ x. refl) delete_acls-answered
+    delete_acls_reply
+reply_form keys.SaslAuthenticate version =
+    variant replies.SaslAuthenticate answered_sasl_authenticate (λ x. refl)
+    sasl_authenticate-answered sasl_authenticate_reply
 
 unfoldable pub reply_body : Api → Grammar Reply
 reply_body api = reply_form api.key api.version

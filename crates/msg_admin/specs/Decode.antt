@@ -1,4 +1,5 @@
--- What a client sends in one frame (Kafka protocol guide, "Retrieving Supported API versions"; KIP-511).
+-- What a client sends in one frame (Kafka protocol guide, "Retrieving Supported API versions";
+-- KIP-511).
 use Rattle.std.specs.Prelude.{◌≤◌, ℕ, ℤ, List, Option, Some, None, Result, Ok, Err}
 use Rattle.wire_types.specs.declared.fault.Malformed.{Malformed}
 use Rattle.msg_admin.specs.declared.decode.Frame.{Frame}

@@ -1,4 +1,5 @@
--- Frames: a size, and so many bytes (Kafka protocol guide, "Common Request and Response Structure").
+-- Frames: a size, and so many bytes (Kafka protocol guide, "Common Request and Response
+-- Structure").
 use Rattle.std.specs.Prelude.{◌≡◌, ℕ, pos, ◌^◌, List, ◌++◌, length, Bool, true, false, ◌&&◌, nat_lt, ◌<◌, Option, Some, None, Result, Ok, Err}
 use Rattle.wire_types.specs.declared.fault.WriteFault.{WriteFault}
 use Rattle.wire_types.specs.declared.fault.WriteFault.TheVariants as faults
@@ -25,5 +26,6 @@ GivesFrame g x = Gives (frame_fits g x) (frame_bytes (g.written x))
 
 -- the size of the value's spelling, where it fits
 abbrev pub TellsSize : {A : Type 0} → Grammar A → A → Option ℕ → Type 0
-TellsSize g x (Some size) = (frame_fits g x ≡ true) × (size ≡ length (g.written x)) × (size < 2 ^ 31)
+TellsSize g x (Some size) =
+    (frame_fits g x ≡ true) × (size ≡ length (g.written x)) × (size < 2 ^ 31)
 TellsSize g x None = frame_fits g x ≡ false

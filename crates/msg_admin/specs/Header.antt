@@ -7,7 +7,8 @@ use Rattle.msg_admin.specs.declared.api.Api.{Api}
 use Rattle.msg_admin.specs.declared.header.Header.{Header}
 use Rattle.msg_admin.specs.Api.{is_flexible}
 
--- After what a header of a flexible version has in common with a plain one, a tagged section stands.
+-- After what a header of a flexible version has in common with a plain one, a tagged section
+-- stands.
 abbrev pub with_header_tags : {A : Type 0} → Bool → Grammar A → Grammar A
 with_header_tags false g = g
 with_header_tags true g = tagged_struct (λ x. x) (λ x. x) (λ x. refl) (λ x. refl) g
@@ -21,7 +22,8 @@ abbrev pub sender : Grammar (ℤ × Option (List ℕ))
 sender = int32 ⨟ nullable_string
 
 abbrev pub header_of : ℤ × ℤ → ℤ × Option (List ℕ) → Header
-header_of (key, version) (correlation, client) = record { key = key; version = version; correlation = correlation; client = client }
+header_of (key, version) (correlation, client) =
+    record { key = key; version = version; correlation = correlation; client = client }
 
 -- Request Header v1 => request_api_key request_api_version correlation_id client_id
 abbrev pub header : Grammar Header
@@ -35,7 +37,8 @@ header = struct
 abbrev pub request_header : Api → Grammar Header
 request_header api = with_header_tags (is_flexible api) header
 
--- Response Header v0 => correlation_id, and for a flexible version Response Header v1 => correlation_id TAG_BUFFER
+-- Response Header v0 => correlation_id, and for a flexible version Response Header v1 =>
+-- correlation_id TAG_BUFFER
 abbrev pub response_header : Api → Grammar ℤ
 response_header api = with_header_tags (is_flexible api) int32
 

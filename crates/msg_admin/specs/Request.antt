@@ -16,7 +16,9 @@ use Rattle.msg_admin.specs.Frame.{frame_bytes, Gives}
 
 -- The bytes are a header in the form of the api that it names, and the body of that api.
 abbrev pub IsRequest : List ℕ → Header → Request → Type 0
-IsRequest bytes h r = (front text : List ℕ) × (api : Api) × (bytes ≡ front ++ text) × (request_header api).Spells front h
+IsRequest bytes h r =
+    (front text : List ℕ) × (api : Api) × (bytes ≡ front ++ text)
+    × (request_header api).Spells front h
     × (api_at h.key h.version ≡ Some api) × (request_body api).Spells text r
 
 -- ---- reading, from left to right
@@ -29,7 +31,8 @@ served_api (Some api) = Ok api
 abbrev pub whole_body : {A : Type 0} → A × List ℕ → Result A Malformed
 whole_body x = if length x.1 == 0 then Ok x.0 else Err Rest
 
--- The request, or the first fault. Key and version are looked up as soon as both are read, and tell the header's form.
+-- The request, or the first fault. Key and version are looked up as soon as both are read, and tell
+-- the header's form.
 unfoldable pub request_at : List ℕ → Result (Header × Request) Malformed
 request_at bytes =
     names.reading bytes >>= λ k.
@@ -53,12 +56,18 @@ request_text h r = (request_header (api_of r)).written h ++ (request_body (api_o
 
 -- both have a spelling, and the size of the two can be told
 unfoldable pub is_writable : Header → Request → Bool
-is_writable h r = ((request_header (api_of r)).fits h && (request_body (api_of r)).fits r) && nat_lt (length (request_text h r)) (2 ^ 31)
+is_writable h r =
+    ((request_header (api_of r)).fits h && (request_body (api_of r)).fits r)
+    && nat_lt (length (request_text h r)) (2 ^ 31)
 
 -- The call gave the frame, where it can be written. `TooLong` comes only where it can not.
 abbrev pub GivesRequest : Header → Request → Result (List ℕ) WriteFault → Type 0
 GivesRequest h r = Gives (is_writable h r) (frame_bytes (request_text h r))
 
--- The request can be written; after a header whose client is null, its frame has a size of at most 104,857,600.
+-- The request can be written; after a header whose client is null, its frame has a size of at most
+-- 104,857,600.
 abbrev pub Fits : Request → Type 0
-Fits r = ((request_body (api_of r)).fits r ≡ true) × (least_header (is_flexible (api_of r)) + length ((request_body (api_of r)).written r) ≤ 104857600)
+Fits r =
+    ((request_body (api_of r)).fits r ≡ true)
+    × (least_header (is_flexible (api_of r)) + length ((request_body (api_of r)).written r)
+    ≤ 104857600)

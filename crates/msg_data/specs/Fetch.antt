@@ -16,7 +16,8 @@ use Rattle.msg_data.specs.Strings.{names_of}
 -- partitions => partition fetch_offset partition_max_bytes
 abbrev pub fetch_partition : Grammar FetchPartition
 fetch_partition = struct
-    (λ (index, (offset, max_bytes)). record { index = index; offset = offset; max_bytes = max_bytes })
+    (λ (index, (offset, max_bytes)).
+    record { index = index; offset = offset; max_bytes = max_bytes })
     (λ p. (p.index, (p.offset, p.max_bytes)))
     (λ x. refl) (λ p. refl)
     (int32  -- partition
@@ -52,7 +53,8 @@ aborted_transaction = struct
     (int64  -- producer_id
     ⨟ int64)  -- first_offset
 
--- partitions => partition_index error_code high_watermark last_stable_offset [aborted_transactions] records
+-- partitions => partition_index error_code high_watermark last_stable_offset [aborted_transactions]
+-- records
 abbrev pub fetched_records : Grammar FetchedRecords
 fetched_records = struct
     (λ (index, (error, (high_watermark, (last_stable_offset, (aborted, records))))). record {

@@ -21,7 +21,8 @@ unfolding isolation_of
 isolation_of-level_of levels.ReadUncommitted = refl
 isolation_of-level_of levels.ReadCommitted = refl
 
-pub level_of-isolation_of : (number : ℤ) (level : Isolation) → isolation_of number ≡ Some level → level_of level ≡ number
+pub level_of-isolation_of : (number : ℤ) (level : Isolation) → isolation_of number ≡ Some level
+    → level_of level ≡ number
 unfolding isolation_of
 level_of-isolation_of (pos zero) levels.ReadUncommitted e = refl
 level_of-isolation_of (pos zero) levels.ReadCommitted e = absurd cc

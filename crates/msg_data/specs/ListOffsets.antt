@@ -1,4 +1,5 @@
--- The grammars of the ListOffsets messages, version 2 (Kafka protocol guide, "ListOffsets API (Key: 2)").
+-- The grammars of the ListOffsets messages, version 2 (Kafka protocol guide, "ListOffsets API (Key:
+-- 2)").
 use Rattle.std.specs.Prelude.{ℕ, List, refl}
 use Rattle.wire_types.specs.Grammar.{Grammar}
 use Rattle.wire_types.specs.Combinators.{struct, ◌⨟◌}
@@ -24,7 +25,8 @@ wanted_offset = struct
 -- ListOffsets Request => replica_id isolation_level [topics]
 abbrev pub list_offsets_request : Grammar ListOffsetsRequest
 list_offsets_request = struct
-    (λ (replica, (isolation, topics)). record { replica = replica; isolation = isolation; topics = topics })
+    (λ (replica, (isolation, topics)).
+    record { replica = replica; isolation = isolation; topics = topics })
     (λ r. (r.replica, (r.isolation, r.topics)))
     (λ x. refl) (λ r. refl)
     (int32  -- replica_id
@@ -34,7 +36,8 @@ list_offsets_request = struct
 -- partitions => partition_index error_code timestamp offset
 abbrev pub found_offset : Grammar FoundOffset
 found_offset = struct
-    (λ (index, (error, (timestamp, offset))). record { index = index; error = error; timestamp = timestamp; offset = offset })
+    (λ (index, (error, (timestamp, offset))).
+    record { index = index; error = error; timestamp = timestamp; offset = offset })
     (λ p. (p.index, (p.error, (p.timestamp, p.offset))))
     (λ x. refl) (λ p. refl)
     (int32  -- partition_index

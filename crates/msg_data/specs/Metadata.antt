@@ -33,7 +33,14 @@ broker = struct
 -- partitions => error_code partition_index leader_id [replica_nodes] [isr_nodes]
 abbrev pub partition : Grammar PartitionInfo
 partition = struct
-    (λ (error, (index, (leader, (replicas, in_sync)))). record { error = error; index = index; leader = leader; replicas = replicas; in_sync = in_sync })
+    (λ (error, (index, (leader, (replicas, in_sync)))).
+    record {
+      error = error;
+      index = index;
+      leader = leader;
+      replicas = replicas;
+      in_sync = in_sync;
+    })
     (λ p. (p.error, (p.index, (p.leader, (p.replicas, p.in_sync)))))
     (λ x. refl) (λ p. refl)
     (error_code  -- error_code
@@ -45,7 +52,8 @@ partition = struct
 -- topics => error_code name is_internal [partitions]
 abbrev pub topic : Grammar TopicInfo
 topic = struct
-    (λ (error, (name, (internal, partitions))). record { error = error; name = name; internal = internal; partitions = partitions })
+    (λ (error, (name, (internal, partitions))).
+    record { error = error; name = name; internal = internal; partitions = partitions })
     (λ t. (t.error, (t.name, (t.internal, t.partitions))))
     (λ x. refl) (λ t. refl)
     (error_code  -- error_code
@@ -56,7 +64,8 @@ topic = struct
 -- Metadata Response => [brokers] controller_id [topics]
 abbrev pub metadata_reply : Grammar MetadataReply
 metadata_reply = struct
-    (λ (brokers, (controller, topics)). record { brokers = brokers; controller = controller; topics = topics })
+    (λ (brokers, (controller, topics)).
+    record { brokers = brokers; controller = controller; topics = topics })
     (λ r. (r.brokers, (r.controller, r.topics)))
     (λ x. refl) (λ r. refl)
     (array broker  -- brokers

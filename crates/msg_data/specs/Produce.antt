@@ -23,7 +23,13 @@ produced_records = struct
 -- Produce Request => transactional_id acks timeout_ms [topic_data]
 abbrev pub produce_request : Grammar ProduceRequest
 produce_request = struct
-    (λ (transactional_id, (acks, (timeout, topics))). record { transactional_id = transactional_id; acks = acks; timeout = timeout; topics = topics })
+    (λ (transactional_id, (acks, (timeout, topics))).
+    record {
+      transactional_id = transactional_id;
+      acks = acks;
+      timeout = timeout;
+      topics = topics;
+    })
     (λ r. (r.transactional_id, (r.acks, (r.timeout, r.topics))))
     (λ x. refl) (λ r. refl)
     (nullable_string  -- transactional_id
@@ -34,7 +40,13 @@ produce_request = struct
 -- partition_responses => index error_code base_offset log_append_time_ms
 abbrev pub produced_offset : Grammar ProducedOffset
 produced_offset = struct
-    (λ (index, (error, (base_offset, log_append_time))). record { index = index; error = error; base_offset = base_offset; log_append_time = log_append_time })
+    (λ (index, (error, (base_offset, log_append_time))).
+    record {
+      index = index;
+      error = error;
+      base_offset = base_offset;
+      log_append_time = log_append_time;
+    })
     (λ p. (p.index, (p.error, (p.base_offset, p.log_append_time))))
     (λ x. refl) (λ p. refl)
     (int32  -- index

@@ -1,4 +1,5 @@
--- The grammars of the Heartbeat messages, version 1 (Kafka protocol guide, "Heartbeat API (Key: 12)").
+-- The grammars of the Heartbeat messages, version 1 (Kafka protocol guide, "Heartbeat API (Key:
+-- 12)").
 use Rattle.std.specs.Prelude.{refl}
 use Rattle.wire_types.specs.Grammar.{Grammar}
 use Rattle.wire_types.specs.Combinators.{struct, ◌⨟◌}
@@ -10,7 +11,8 @@ use Rattle.msg_group.specs.declared.heartbeat.HeartbeatReply.{HeartbeatReply}
 -- Heartbeat Request => group_id generation_id member_id
 abbrev pub heartbeat_request : Grammar HeartbeatRequest
 heartbeat_request = struct
-    (λ (group, (generation, member)). record { group = group; generation = generation; member = member })
+    (λ (group, (generation, member)).
+    record { group = group; generation = generation; member = member })
     (λ r. (r.group, (r.generation, r.member)))
     (λ x. refl) (λ r. refl)
     (string  -- group_id

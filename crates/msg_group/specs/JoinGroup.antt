@@ -1,4 +1,5 @@
--- The grammars of the JoinGroup messages, version 2 (Kafka protocol guide, "JoinGroup API (Key: 11)").
+-- The grammars of the JoinGroup messages, version 2 (Kafka protocol guide, "JoinGroup API (Key:
+-- 11)").
 use Rattle.std.specs.Prelude.{ℕ, List, [], ◌∷◌, refl}
 use Rattle.std.specs.List.{flat_map}
 use Rattle.wire_types.specs.Grammar.{Grammar}
@@ -19,10 +20,12 @@ offered_protocol = struct
     (string  -- name
     ⨟ bytes)  -- metadata
 
--- JoinGroup Request => group_id session_timeout_ms rebalance_timeout_ms member_id protocol_type [protocols]
+-- JoinGroup Request => group_id session_timeout_ms rebalance_timeout_ms member_id protocol_type
+-- [protocols]
 abbrev pub join_group_request : Grammar JoinGroupRequest
 join_group_request = struct
-    (λ (group, (session_timeout, (rebalance_timeout, (member, (protocol_type, protocols))))). record {
+    (λ (group, (session_timeout, (rebalance_timeout, (member, (protocol_type, protocols))))).
+    record {
       group = group;
       session_timeout = session_timeout;
       rebalance_timeout = rebalance_timeout;
@@ -30,7 +33,10 @@ join_group_request = struct
       protocol_type = protocol_type;
       protocols = protocols;
     })
-    (λ r. (r.group, (r.session_timeout, (r.rebalance_timeout, (r.member, (r.protocol_type, r.protocols))))))
+    (λ r. (
+      r.group,
+      (r.session_timeout, (r.rebalance_timeout, (r.member, (r.protocol_type, r.protocols)))),
+    ))
     (λ x. refl) (λ r. refl)
     (string  -- group_id
     ⨟ int32  -- session_timeout_ms
@@ -48,7 +54,8 @@ joined_member = struct
     (string  -- member_id
     ⨟ bytes)  -- metadata
 
--- JoinGroup Response => throttle_time_ms error_code generation_id protocol_name leader member_id [members]
+-- JoinGroup Response => throttle_time_ms error_code generation_id protocol_name leader member_id
+-- [members]
 abbrev pub join_group_reply : Grammar JoinGroupReply
 join_group_reply = struct
     (λ (throttle, (error, (generation, (protocol, (leader, (member, members)))))). record {

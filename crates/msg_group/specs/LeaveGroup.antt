@@ -1,4 +1,5 @@
--- The grammars of the LeaveGroup messages, version 1 (Kafka protocol guide, "LeaveGroup API (Key: 13)").
+-- The grammars of the LeaveGroup messages, version 1 (Kafka protocol guide, "LeaveGroup API (Key:
+-- 13)").
 use Rattle.std.specs.Prelude.{refl}
 use Rattle.wire_types.specs.Grammar.{Grammar}
 use Rattle.wire_types.specs.Combinators.{struct, ◌⨟◌}

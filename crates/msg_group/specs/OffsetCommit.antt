@@ -1,4 +1,5 @@
--- The grammars of the OffsetCommit messages, version 2 (Kafka protocol guide, "OffsetCommit API (Key: 8)").
+-- The grammars of the OffsetCommit messages, version 2 (Kafka protocol guide, "OffsetCommit API
+-- (Key: 8)").
 use Rattle.std.specs.Prelude.{ℕ, List, refl}
 use Rattle.std.specs.List.{flat_map}
 use Rattle.wire_types.specs.Grammar.{Grammar}
@@ -25,7 +26,14 @@ offset_to_commit = struct
 -- OffsetCommit Request => group_id generation_id member_id retention_time_ms [topics]
 abbrev pub offset_commit_request : Grammar OffsetCommitRequest
 offset_commit_request = struct
-    (λ (group, (generation, (member, (retention, topics)))). record { group = group; generation = generation; member = member; retention = retention; topics = topics })
+    (λ (group, (generation, (member, (retention, topics)))).
+    record {
+      group = group;
+      generation = generation;
+      member = member;
+      retention = retention;
+      topics = topics;
+    })
     (λ r. (r.group, (r.generation, (r.member, (r.retention, r.topics)))))
     (λ x. refl) (λ r. refl)
     (string  -- group_id

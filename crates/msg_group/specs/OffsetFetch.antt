@@ -1,4 +1,5 @@
--- The grammars of the OffsetFetch messages, version 7, a flexible one (Kafka protocol guide, "OffsetFetch API (Key: 9)").
+-- The grammars of the OffsetFetch messages, version 7, a flexible one (Kafka protocol guide,
+-- "OffsetFetch API (Key: 9)").
 use Rattle.std.specs.Prelude.{refl}
 use Rattle.wire_types.specs.Grammar.{Grammar}
 use Rattle.wire_types.specs.Combinators.{◌⨟◌}
@@ -13,17 +14,26 @@ use Rattle.msg_group.specs.declared.offset_fetch.OffsetFetchReply.{OffsetFetchRe
 --   topics => name [partition_indexes] TAG_BUFFER
 abbrev pub offset_fetch_request : Grammar OffsetFetchRequest
 offset_fetch_request = tagged_struct
-    (λ (group, (topics, require_stable)). record { group = group; topics = topics; require_stable = require_stable })
+    (λ (group, (topics, require_stable)).
+    record { group = group; topics = topics; require_stable = require_stable })
     (λ r. (r.group, (r.topics, r.require_stable)))
     (λ x. refl) (λ r. refl)
     (compact_string  -- group_id
     ⨟ compact_nullable_array (flexible_topic_of int32)  -- topics
     ⨟ boolean)  -- require_stable
 
--- partitions => partition_index committed_offset committed_leader_epoch metadata error_code TAG_BUFFER
+-- partitions => partition_index committed_offset committed_leader_epoch metadata error_code
+-- TAG_BUFFER
 abbrev pub fetched_offset : Grammar FetchedOffset
 fetched_offset = tagged_struct
-    (λ (index, (offset, (leader_epoch, (metadata, error)))). record { index = index; offset = offset; leader_epoch = leader_epoch; metadata = metadata; error = error })
+    (λ (index, (offset, (leader_epoch, (metadata, error)))).
+    record {
+      index = index;
+      offset = offset;
+      leader_epoch = leader_epoch;
+      metadata = metadata;
+      error = error;
+    })
     (λ p. (p.index, (p.offset, (p.leader_epoch, (p.metadata, p.error)))))
     (λ x. refl) (λ p. refl)
     (int32  -- partition_index

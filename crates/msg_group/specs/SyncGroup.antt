@@ -1,4 +1,5 @@
--- The grammars of the SyncGroup messages, version 1 (Kafka protocol guide, "SyncGroup API (Key: 14)").
+-- The grammars of the SyncGroup messages, version 1 (Kafka protocol guide, "SyncGroup API (Key:
+-- 14)").
 use Rattle.std.specs.Prelude.{refl}
 use Rattle.wire_types.specs.Grammar.{Grammar}
 use Rattle.wire_types.specs.Combinators.{struct, ◌⨟◌}
@@ -20,7 +21,8 @@ member_assignment = struct
 -- SyncGroup Request => group_id generation_id member_id [assignments]
 abbrev pub sync_group_request : Grammar SyncGroupRequest
 sync_group_request = struct
-    (λ (group, (generation, (member, assignments))). record { group = group; generation = generation; member = member; assignments = assignments })
+    (λ (group, (generation, (member, assignments))).
+    record { group = group; generation = generation; member = member; assignments = assignments })
     (λ r. (r.group, (r.generation, (r.member, r.assignments))))
     (λ x. refl) (λ r. refl)
     (string  -- group_id
@@ -31,7 +33,8 @@ sync_group_request = struct
 -- SyncGroup Response => throttle_time_ms error_code assignment
 abbrev pub sync_group_reply : Grammar SyncGroupReply
 sync_group_reply = struct
-    (λ (throttle, (error, assignment)). record { throttle = throttle; error = error; assignment = assignment })
+    (λ (throttle, (error, assignment)).
+    record { throttle = throttle; error = error; assignment = assignment })
     (λ r. (r.throttle, (r.error, r.assignment)))
     (λ x. refl) (λ r. refl)
     (int32  -- throttle_time_ms

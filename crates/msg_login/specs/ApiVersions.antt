@@ -1,4 +1,5 @@
--- The grammars of the ApiVersions answer, version 0 (Kafka protocol guide, "ApiVersions API (Key: 18)"). The request has no fields.
+-- The grammars of the ApiVersions answer, version 0 (Kafka protocol guide, "ApiVersions API (Key:
+-- 18)"). The request has no fields.
 use Rattle.std.specs.Prelude.{refl}
 use Rattle.wire_types.specs.Grammar.{Grammar}
 use Rattle.wire_types.specs.Combinators.{struct, ◌⨟◌}

@@ -1,4 +1,5 @@
--- The grammars of the SaslAuthenticate messages, version 0 (Kafka protocol guide, "SaslAuthenticate API (Key: 36)").
+-- The grammars of the SaslAuthenticate messages, version 0 (Kafka protocol guide, "SaslAuthenticate
+-- API (Key: 36)").
 use Rattle.std.specs.Prelude.{ℕ, List, [], None, refl}
 use Rattle.wire_types.specs.Grammar.{Grammar}
 use Rattle.wire_types.specs.Combinators.{struct, ◌⨟◌}

@@ -1,4 +1,5 @@
--- The grammars of the SaslHandshake messages, version 1 (Kafka protocol guide, "SaslHandshake API (Key: 17)").
+-- The grammars of the SaslHandshake messages, version 1 (Kafka protocol guide, "SaslHandshake API
+-- (Key: 17)").
 use Rattle.std.specs.Prelude.{ℕ, List, [], ◌∷◌, codes, refl}
 use Rattle.wire_types.specs.Grammar.{Grammar}
 use Rattle.wire_types.specs.Combinators.{struct, ◌⨟◌}

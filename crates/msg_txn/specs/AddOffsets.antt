@@ -1,4 +1,5 @@
--- The grammars of the AddOffsetsToTxn messages, version 0 (Kafka protocol guide, "AddOffsetsToTxn API (Key: 25)").
+-- The grammars of the AddOffsetsToTxn messages, version 0 (Kafka protocol guide, "AddOffsetsToTxn
+-- API (Key: 25)").
 use Rattle.std.specs.Prelude.{refl}
 use Rattle.wire_types.specs.Grammar.{Grammar}
 use Rattle.wire_types.specs.Combinators.{struct, ◌⨟◌}
@@ -10,7 +11,13 @@ use Rattle.msg_txn.specs.declared.add_offsets.AddOffsetsToTxnReply.{AddOffsetsTo
 -- AddOffsetsToTxn Request => transactional_id producer_id producer_epoch group_id
 abbrev pub add_offsets_to_txn_request : Grammar AddOffsetsToTxnRequest
 add_offsets_to_txn_request = struct
-    (λ (transactional_id, (producer, (epoch, group))). record { transactional_id = transactional_id; producer = producer; epoch = epoch; group = group })
+    (λ (transactional_id, (producer, (epoch, group))).
+    record {
+      transactional_id = transactional_id;
+      producer = producer;
+      epoch = epoch;
+      group = group;
+    })
     (λ r. (r.transactional_id, (r.producer, (r.epoch, r.group))))
     (λ x. refl) (λ r. refl)
     (string  -- transactional_id

@@ -1,4 +1,5 @@
--- The grammars of the AddPartitionsToTxn messages, version 0 (Kafka protocol guide, "AddPartitionsToTxn API (Key: 24)").
+-- The grammars of the AddPartitionsToTxn messages, version 0 (Kafka protocol guide,
+-- "AddPartitionsToTxn API (Key: 24)").
 use Rattle.std.specs.Prelude.{ℕ, List, refl}
 use Rattle.std.specs.List.{flat_map}
 use Rattle.wire_types.specs.Grammar.{Grammar}
@@ -14,7 +15,13 @@ use Rattle.msg_txn.specs.declared.add_partitions.AddPartitionsToTxnReply.{AddPar
 -- AddPartitionsToTxn Request => transactional_id producer_id producer_epoch [topics]
 abbrev pub add_partitions_to_txn_request : Grammar AddPartitionsToTxnRequest
 add_partitions_to_txn_request = struct
-    (λ (transactional_id, (producer, (epoch, topics))). record { transactional_id = transactional_id; producer = producer; epoch = epoch; topics = topics })
+    (λ (transactional_id, (producer, (epoch, topics))).
+    record {
+      transactional_id = transactional_id;
+      producer = producer;
+      epoch = epoch;
+      topics = topics;
+    })
     (λ r. (r.transactional_id, (r.producer, (r.epoch, r.topics))))
     (λ x. refl) (λ r. refl)
     (string  -- transactional_id

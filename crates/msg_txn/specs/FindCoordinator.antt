@@ -1,4 +1,5 @@
--- The grammars of the FindCoordinator messages, version 1 (Kafka protocol guide, "FindCoordinator API (Key: 10)").
+-- The grammars of the FindCoordinator messages, version 1 (Kafka protocol guide, "FindCoordinator
+-- API (Key: 10)").
 use Rattle.std.specs.Prelude.{ℕ, List, [], ◌∷◌, ◌++◌, refl}
 use Rattle.wire_types.specs.Grammar.{Grammar}
 use Rattle.wire_types.specs.Combinators.{struct, ◌⨟◌}

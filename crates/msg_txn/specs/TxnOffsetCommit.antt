@@ -1,4 +1,5 @@
--- The grammars of the TxnOffsetCommit messages, version 3, a flexible one (Kafka protocol guide, "TxnOffsetCommit API (Key: 28)").
+-- The grammars of the TxnOffsetCommit messages, version 3, a flexible one (Kafka protocol guide,
+-- "TxnOffsetCommit API (Key: 28)").
 use Rattle.std.specs.Prelude.{refl}
 use Rattle.wire_types.specs.Grammar.{Grammar}
 use Rattle.wire_types.specs.Combinators.{◌⨟◌}
@@ -10,10 +11,12 @@ use Rattle.msg_txn.specs.declared.txn_offset_commit.TxnOffsetCommitRequest.{TxnO
 use Rattle.msg_txn.specs.declared.txn_offset_commit.StagedOffset.{StagedOffset}
 use Rattle.msg_txn.specs.declared.txn_offset_commit.TxnOffsetCommitReply.{TxnOffsetCommitReply}
 
--- partitions => partition_index committed_offset committed_leader_epoch committed_metadata TAG_BUFFER
+-- partitions => partition_index committed_offset committed_leader_epoch committed_metadata
+-- TAG_BUFFER
 abbrev pub offset_to_stage : Grammar OffsetToStage
 offset_to_stage = tagged_struct
-    (λ (index, (offset, (leader_epoch, metadata))). record { index = index; offset = offset; leader_epoch = leader_epoch; metadata = metadata })
+    (λ (index, (offset, (leader_epoch, metadata))).
+    record { index = index; offset = offset; leader_epoch = leader_epoch; metadata = metadata })
     (λ p. (p.index, (p.offset, (p.leader_epoch, p.metadata))))
     (λ x. refl) (λ p. refl)
     (int32  -- partition_index
@@ -21,10 +24,12 @@ offset_to_stage = tagged_struct
     ⨟ int32  -- committed_leader_epoch
     ⨟ compact_nullable_string)  -- committed_metadata
 
--- TxnOffsetCommit Request => transactional_id group_id producer_id producer_epoch generation_id member_id group_instance_id [topics] TAG_BUFFER
+-- TxnOffsetCommit Request => transactional_id group_id producer_id producer_epoch generation_id
+-- member_id group_instance_id [topics] TAG_BUFFER
 abbrev pub txn_offset_commit_request : Grammar TxnOffsetCommitRequest
 txn_offset_commit_request = tagged_struct
-    (λ (transactional_id, (group, (producer, (epoch, (generation, (member, (instance, topics))))))). record {
+    (λ (transactional_id, (group, (producer, (epoch, (generation, (member, (instance, topics))))))).
+    record {
       transactional_id = transactional_id;
       group = group;
       producer = producer;
@@ -34,7 +39,10 @@ txn_offset_commit_request = tagged_struct
       instance = instance;
       topics = topics;
     })
-    (λ r. (r.transactional_id, (r.group, (r.producer, (r.epoch, (r.generation, (r.member, (r.instance, r.topics))))))))
+    (λ r. (
+      r.transactional_id,
+      (r.group, (r.producer, (r.epoch, (r.generation, (r.member, (r.instance, r.topics)))))),
+    ))
     (λ x. refl) (λ r. refl)
     (compact_string  -- transactional_id
     ⨟ compact_string  -- group_id

@@ -1,4 +1,5 @@
--- The part of a request that the binding list allows, by what the parts ask and by the verdicts alone.
+-- The part of a request that the binding list allows, by what the parts ask and by the verdicts
+-- alone.
 use Rattle.std.specs.Prelude.{ℕ, List, [], ◌∷◌, map, filter, Option, Some, None, is_none}
 use Rattle.std.specs.Option.{option_map}
 use Rattle.acl_binding.specs.declared.question.Caller.{Caller}
@@ -17,7 +18,8 @@ use Rattle.api_dispatch.specs.Refusals.{request_refusals}
 pub data Allowed : Type 0 where
   -- the request without its refused parts
   Rest : Request → Allowed
-  -- an AddPartitionsToTxn of which a part is refused, without its refused parts: nothing may be added
+  -- an AddPartitionsToTxn of which a part is refused, without its refused parts: nothing may be
+  -- added
   Cut : AddPartitionsToTxnRequest → Allowed
   -- nothing: the request itself is refused, with this code
   Nothing : ErrorCode → Allowed
@@ -39,20 +41,29 @@ unrefused_names refused names = filter (λ (name : List ℕ). is_none (refused n
 
 -- a topic keeps its place, also without partitions
 abbrev pub unrefused_topic : {P : Type 0} → (List ℕ → Option Refusal) → Topic P → Topic P
-unrefused_topic {P} refused t = record { name = t.name; partitions = filter (λ (p : P). is_none (refused t.name)) t.partitions }
+unrefused_topic {P} refused t =
+    record { name = t.name; partitions = filter (λ (p : P). is_none (refused t.name)) t.partitions }
 
-abbrev pub unrefused_topics : {P : Type 0} → (List ℕ → Option Refusal) → List (Topic P) → List (Topic P)
+abbrev pub unrefused_topics : {P : Type 0} → (List ℕ → Option Refusal) → List (Topic P)
+    → List (Topic P)
 unrefused_topics refused ts = map (unrefused_topic refused) ts
 
 -- a null list stays null
 abbrev pub unrefused_request : (List ℕ → Option Refusal) → Request → Request
-unrefused_request refused (requests.Produce r) = requests.Produce (record r { topics = unrefused_topics refused r.topics })
-unrefused_request refused (requests.Fetch r) = requests.Fetch (record r { topics = unrefused_topics refused r.topics })
-unrefused_request refused (requests.ListOffsets r) = requests.ListOffsets (record r { topics = unrefused_topics refused r.topics })
-unrefused_request refused (requests.Metadata r) = requests.Metadata (record r { topics = option_map (unrefused_names refused) r.topics })
-unrefused_request refused (requests.OffsetCommit r) = requests.OffsetCommit (record r { topics = unrefused_topics refused r.topics })
-unrefused_request refused (requests.OffsetFetch r) = requests.OffsetFetch (record r { topics = option_map (unrefused_topics refused) r.topics })
-unrefused_request refused (requests.TxnOffsetCommit r) = requests.TxnOffsetCommit (record r { topics = unrefused_topics refused r.topics })
+unrefused_request refused (requests.Produce r) =
+    requests.Produce (record r { topics = unrefused_topics refused r.topics })
+unrefused_request refused (requests.Fetch r) =
+    requests.Fetch (record r { topics = unrefused_topics refused r.topics })
+unrefused_request refused (requests.ListOffsets r) =
+    requests.ListOffsets (record r { topics = unrefused_topics refused r.topics })
+unrefused_request refused (requests.Metadata r) =
+    requests.Metadata (record r { topics = option_map (unrefused_names refused) r.topics })
+unrefused_request refused (requests.OffsetCommit r) =
+    requests.OffsetCommit (record r { topics = unrefused_topics refused r.topics })
+unrefused_request refused (requests.OffsetFetch r) =
+    requests.OffsetFetch (record r { topics = option_map (unrefused_topics refused) r.topics })
+unrefused_request refused (requests.TxnOffsetCommit r) =
+    requests.TxnOffsetCommit (record r { topics = unrefused_topics refused r.topics })
 unrefused_request refused request = request
 
 -- ---- what is allowed of a request
@@ -68,5 +79,13 @@ whole_or_cut request cut [] = Rest request
 whole_or_cut request cut (r ∷ rs) = Cut cut
 
 abbrev pub allowed_part : Rules → Caller → Request → Allowed
-allowed_part rules caller (requests.AddPartitionsToTxn r) = whole_or_cut (requests.AddPartitionsToTxn r) (record r { topics = unrefused_topics (refused_at rules caller (requests.AddPartitionsToTxn r)) r.topics }) (request_refusals rules caller (requests.AddPartitionsToTxn r))
-allowed_part rules caller request = rest_or_nothing (unrefused_request (refused_at rules caller request) request) (refused_itself rules caller request)
+allowed_part rules caller (requests.AddPartitionsToTxn r) =
+    whole_or_cut (requests.AddPartitionsToTxn r)
+    (record r {
+      topics = unrefused_topics (refused_at rules caller (requests.AddPartitionsToTxn r))
+          r.topics;
+    })
+    (request_refusals rules caller (requests.AddPartitionsToTxn r))
+allowed_part rules caller request =
+    rest_or_nothing (unrefused_request (refused_at rules caller request) request)
+    (refused_itself rules caller request)

@@ -13,7 +13,8 @@ use Rattle.authorizer.specs.Asking.{Rules}
 use Rattle.msg_admin.specs.declared.request.Request.{Request}
 use Rattle.api_dispatch.specs.Refusals.{request_refusals}
 
--- a binding of this creation number denies it, and no older one, whatever allows it; or none denies it and none allows it
+-- a binding of this creation number denies it, and no older one, whatever allows it; or none denies
+-- it and none allows it
 abbrev pub IsNamed : List Numbered → Question → DenyReason → Type 0
 IsNamed es q (Denied n) = IsFirstDenial es q n
 IsNamed es q Nothing = IsUnmatched es q
@@ -24,4 +25,6 @@ pub record IsRightRefusal (rules : Rules) (r : Refusal) : Type 0 where
   pub why : IsNamed rules.book.entries r.question r.why
 
 abbrev pub RefusalsAreRight : Type 0
-RefusalsAreRight = (rules : Rules) (caller : Caller) (request : Request) → AllByRecursion (IsRightRefusal rules) (request_refusals rules caller request)
+RefusalsAreRight =
+    (rules : Rules) (caller : Caller) (request : Request)
+    → AllByRecursion (IsRightRefusal rules) (request_refusals rules caller request)

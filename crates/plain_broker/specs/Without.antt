@@ -12,9 +12,14 @@ use Rattle.plain_broker.specs.Allowed.{Rest, Cut, Nothing, allowed_part}
 pub record RefusedChangesNothing : Type 0 where
   -- a request leaves the world that it leaves without its refused parts
   pub rest : (w : World) (caller : Caller) (client : Option (List ℕ)) (request rest : Request)
-      → allowed_part (rules_of w) caller request ≡ Rest rest → step w (Ask caller client request) ≡ step w (Ask caller client rest)
+      → allowed_part (rules_of w) caller request ≡ Rest rest
+      → step w (Ask caller client request) ≡ step w (Ask caller client rest)
   -- where it is cut, or refused itself, the world is one event older and else the same
-  pub cut : (w : World) (caller : Caller) (client : Option (List ℕ)) (request : Request) (cut : AddPartitionsToTxnRequest)
-      → allowed_part (rules_of w) caller request ≡ Cut cut → step w (Ask caller client request) ≡ with_event_counted w
-  pub nothing : (w : World) (caller : Caller) (client : Option (List ℕ)) (request : Request) (code : ErrorCode)
-      → allowed_part (rules_of w) caller request ≡ Nothing code → step w (Ask caller client request) ≡ with_event_counted w
+  pub cut : (w : World) (caller : Caller) (client : Option (List ℕ)) (request : Request)
+      (cut : AddPartitionsToTxnRequest)
+      → allowed_part (rules_of w) caller request ≡ Cut cut
+      → step w (Ask caller client request) ≡ with_event_counted w
+  pub nothing : (w : World) (caller : Caller) (client : Option (List ℕ)) (request : Request)
+      (code : ErrorCode)
+      → allowed_part (rules_of w) caller request ≡ Nothing code
+      → step w (Ask caller client request) ≡ with_event_counted w

@@ -1,5 +1,6 @@
--- What a partition's log says of its producers, and how a batch is judged by it (KIP-98, "Idempotent Producer
--- Guarantees"): each batch bears its producer's id and epoch and the sequence number of its first record.
+-- What a partition's log says of its producers, and how a batch is judged by it (KIP-98,
+-- "Idempotent Producer Guarantees"): each batch bears its producer's id and epoch and the sequence
+-- number of its first record.
 use Rattle.std.specs.Prelude.{ℤ, pos, ◌+ℤ◌, ◌-ℤ◌, Bool, ◌&&◌, List, [], ◌∷◌, map, reverse, take, not, int_lt, is_none, if◌then◌else◌, Option, Some, None}
 use Rattle.std.specs.Ordering.{int_eq}
 use Rattle.std.specs.Int.{int_max, int_rem_euclid}
@@ -42,7 +43,8 @@ is_of_producer b = not (int_lt b.header.producer_id (pos 0))
 
 -- records of this producer in this epoch
 abbrev pub is_written_by : ℤ → ℤ → BatchData → Bool
-is_written_by id epoch b = is_data b && (has_producer_id id b && int_eq b.header.producer_epoch epoch)
+is_written_by id epoch b =
+    is_data b && (has_producer_id id b && int_eq b.header.producer_epoch epoch)
 
 -- ---- what a log says of a producer
 
@@ -80,10 +82,11 @@ pub record Sequence : Type 0 where
 
 abbrev pub sequence_in : List BatchData → ℤ → Option ℤ → Option Sequence
 sequence_in log id None = None
-sequence_in log id (Some epoch) = Some (record { epoch = epoch; expected = expected_after (latest_batches_by id epoch log) })
+sequence_in log id (Some epoch) =
+    Some (record { epoch = epoch; expected = expected_after (latest_batches_by id epoch log) })
 
--- nothing where the log has nothing of the producer, else the greatest epoch that it tells, and the sequence number
--- after the last data batch of that epoch
+-- nothing where the log has nothing of the producer, else the greatest epoch that it tells, and the
+-- sequence number after the last data batch of that epoch
 abbrev pub sequence : List BatchData → ℤ → Option Sequence
 sequence log id = sequence_in log id (greatest_of (epochs id log))
 
@@ -91,28 +94,36 @@ sequence log id = sequence_in log id (greatest_of (epochs id log))
 
 -- the batches have the same first and the same last sequence number
 abbrev pub has_same_sequences : BatchData → BatchData → Bool
-has_same_sequences b old = int_eq old.header.base_sequence b.header.base_sequence && int_eq (last_of old) (last_of b)
+has_same_sequences b old =
+    int_eq old.header.base_sequence b.header.base_sequence && int_eq (last_of old) (last_of b)
 
--- the batch that is sent again: the latest with the same sequence numbers among the last five data batches of the
--- batch's producer in the batch's epoch
+-- the batch that is sent again: the latest with the same sequence numbers among the last five data
+-- batches of the batch's producer in the batch's epoch
 abbrev pub repeat : List BatchData → BatchData → Option BatchData
-repeat log b = find (has_same_sequences b) (take 5 (latest_batches_by b.header.producer_id b.header.producer_epoch log))
+repeat log b =
+    find (has_same_sequences b)
+    (take 5 (latest_batches_by b.header.producer_id b.header.producer_epoch log))
 
 -- a producer begins each of its epochs at 0
 abbrev pub first_judgment : BatchData → Judgment
-first_judgment b = if int_eq b.header.base_sequence (pos 0) then Next else Refused OutOfOrderSequenceNumber
+first_judgment b =
+    if int_eq b.header.base_sequence (pos 0) then Next else Refused OutOfOrderSequenceNumber
 
 -- and goes on without a gap; what is sent again is told its old offset
 abbrev pub judgment_by_repeat : ℤ → BatchData → Option BatchData → Judgment
 judgment_by_repeat expected b (Some old) = Repeat old.header.base_offset
-judgment_by_repeat expected b None = if int_eq b.header.base_sequence expected then Next else Refused OutOfOrderSequenceNumber
+judgment_by_repeat expected b None =
+    if int_eq b.header.base_sequence expected then Next else Refused OutOfOrderSequenceNumber
 
 abbrev pub judgment_in : Option Sequence → BatchData → Option BatchData → Judgment
 judgment_in None b repeated = first_judgment b
 judgment_in (Some s) b repeated =
     if int_lt b.header.producer_epoch s.epoch then Refused InvalidProducerEpoch
-    else (if int_lt s.epoch b.header.producer_epoch then first_judgment b else judgment_by_repeat s.expected b repeated)
+    else (if int_lt s.epoch b.header.producer_epoch then first_judgment b
+    else judgment_by_repeat s.expected b repeated)
 
 -- how a log judges the batch that is sent next
 abbrev pub judgment_of : List BatchData → BatchData → Judgment
-judgment_of log b = if is_of_producer b then judgment_in (sequence log b.header.producer_id) b (repeat log b) else Next
+judgment_of log b =
+    if is_of_producer b then judgment_in (sequence log b.header.producer_id) b (repeat log b)
+    else Next

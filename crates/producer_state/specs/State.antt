@@ -1,5 +1,5 @@
--- What is kept of a log's producers: of each its epoch, the sequence number that is expected of it, and its last five
--- data batches of that epoch.
+-- What is kept of a log's producers: of each its epoch, the sequence number that is expected of it,
+-- and its last five data batches of that epoch.
 use Rattle.std.specs.Prelude.{◌≡◌, ◌≤ℤ◌, ℤ, pos, Bool, true, false, ◌&&◌, List, [], ◌∷◌, map, take, int_lt, if◌then◌else◌, Option, Some, None}
 use Rattle.std.specs.Ordering.{int_eq}
 use Rattle.std.specs.List.{find}
@@ -13,7 +13,8 @@ use Rattle.producer_state.specs.Sequences.{next_after, last_of, is_data, epochs,
 
 -- a data batch's first and last sequence number and its offset
 abbrev pub written_of : BatchData → BatchMetadata
-written_of b = record { first = b.header.base_sequence; last = last_of b; offset = b.header.base_offset }
+written_of b =
+    record { first = b.header.base_sequence; last = last_of b; offset = b.header.base_offset }
 
 pub record ProducerEntryValue : Type 0 where
   pub epoch : ℤ
@@ -53,13 +54,15 @@ has_sequences_of b w = int_eq w.first b.header.base_sequence && int_eq w.last (l
 
 abbrev pub judgment_by_written : ℤ → BatchData → Option BatchMetadata → Judgment
 judgment_by_written expected b (Some w) = Repeat w.offset
-judgment_by_written expected b None = if int_eq b.header.base_sequence expected then Next else Refused OutOfOrderSequenceNumber
+judgment_by_written expected b None =
+    if int_eq b.header.base_sequence expected then Next else Refused OutOfOrderSequenceNumber
 
 abbrev pub judgment_by_state : Option ProducerEntryValue → BatchData → Judgment
 judgment_by_state None b = first_judgment b
 judgment_by_state (Some s) b =
     if int_lt b.header.producer_epoch s.epoch then Refused InvalidProducerEpoch
-    else (if int_lt s.epoch b.header.producer_epoch then first_judgment b else judgment_by_written s.expected b (find (has_sequences_of b) s.latest))
+    else (if int_lt s.epoch b.header.producer_epoch then first_judgment b
+    else judgment_by_written s.expected b (find (has_sequences_of b) s.latest))
 
 -- ---- one batch or marker more
 
@@ -74,14 +77,19 @@ state_in_epoch (Some s) epoch = if int_lt s.epoch epoch then fresh_state epoch e
 
 -- a data batch more in the same epoch
 abbrev pub state_with_batch : ProducerEntryValue → BatchData → ProducerEntryValue
-state_with_batch s b = record { epoch = s.epoch; expected = next_after b; latest = take 5 (written_of b ∷ s.latest) }
+state_with_batch s b =
+    record { epoch = s.epoch; expected = next_after b; latest = take 5 (written_of b ∷ s.latest) }
 
 abbrev pub state_with_batch_if : Bool → ProducerEntryValue → BatchData → ProducerEntryValue
 state_with_batch_if true s b = state_with_batch s b
 state_with_batch_if false s b = s
 
 abbrev pub state_after_batch : Option ProducerEntryValue → BatchData → ProducerEntryValue
-state_after_batch old b = state_with_batch_if (is_data b && int_eq (state_in_epoch old b.header.producer_epoch).epoch b.header.producer_epoch) (state_in_epoch old b.header.producer_epoch) b
+state_after_batch old b =
+    state_with_batch_if
+    (is_data b
+    && int_eq (state_in_epoch old b.header.producer_epoch).epoch b.header.producer_epoch)
+    (state_in_epoch old b.header.producer_epoch) b
 
 -- the marker that ends a transaction of this producer in this epoch
 pub record IsMarkerOf (id epoch : ℤ) (marker : BatchData) : Type 0 where
@@ -90,5 +98,7 @@ pub record IsMarkerOf (id epoch : ℤ) (marker : BatchData) : Type 0 where
   pub epoch_told : marker.header.producer_epoch ≡ epoch
 
 -- of this producer this is kept now, and of the others what was kept
-abbrev pub IsEntered : List (ℤ × ProducerEntryValue) → List (ℤ × ProducerEntryValue) → ℤ → ProducerEntryValue → Type 0
-IsEntered old new producer s = (id : ℤ) → kept_state new id ≡ (if int_eq producer id then Some s else kept_state old id)
+abbrev pub IsEntered : List (ℤ × ProducerEntryValue) → List (ℤ × ProducerEntryValue) → ℤ
+    → ProducerEntryValue → Type 0
+IsEntered old new producer s =
+    (id : ℤ) → kept_state new id ≡ (if int_eq producer id then Some s else kept_state old id)

@@ -1,4 +1,5 @@
--- Batches (Kafka documentation, "Message Format", "Record Batch"): what a batch is seen as, and which bytes are one.
+-- Batches (Kafka documentation, "Message Format", "Record Batch"): what a batch is seen as, and
+-- which bytes are one.
 use Rattle.std.specs.Prelude.{◌≡◌, ℕ, ℤ, pos, negsuc, ◌+◌, ◌-◌, ◌+ℤ◌, ◌<◌, List, [], ◌∷◌, ◌++◌, length, drop, slice_range, Bool, true, false, ◌&&◌, not, int_lt, Option, Some, None, Result, Ok, Err, if◌then◌else◌}
 use Rattle.std.specs.Ordering.{int_eq}
 use Rattle.std.specs.Int.{w64}
@@ -15,7 +16,8 @@ use Rattle.record_batch.specs.Crc.{crc32c}
 use Rattle.record_batch.specs.BatchHeader.{batch_header, is_uncompressed, has_append_time, is_transactional, is_control, count_of, header_next_offset, header_at}
 use Rattle.record_batch.specs.Record.{AreRecords, all_records}
 
--- a batch: its fields, its records, the outcome that it marks if it is a control batch, and its bytes
+-- a batch: its fields, its records, the outcome that it marks if it is a control batch, and its
+-- bytes
 pub record BatchData : Type 0 where
   pub header : BatchHeader
   pub records : List Rec
@@ -64,8 +66,8 @@ batch_of_bytes marker bytes = batch_of (header_in bytes) marker bytes
 
 -- ---- which bytes are a batch
 
--- the record of a control batch that ends a transaction: a version 0 and the outcome in its key, a version 0 and a
--- coordinator epoch 0 in its value
+-- the record of a control batch that ends a transaction: a version 0 and the outcome in its key, a
+-- version 0 and a coordinator epoch 0 in its value
 abbrev pub marker_type : TransactionResult → ℕ
 marker_type Abort = 0
 marker_type Commit = 1
@@ -81,9 +83,11 @@ marker_record outcome = record {
 -- a control batch has the one record of its outcome
 abbrev pub IsMarked : Option TransactionResult → BatchHeader → List Rec → Type 0
 IsMarked None header records = is_control header ≡ false
-IsMarked (Some outcome) header records = (is_control header ≡ true) × (records ≡ marker_record outcome ∷ [])
+IsMarked (Some outcome) header records =
+    (is_control header ≡ true) × (records ≡ marker_record outcome ∷ [])
 
--- A header and the records after it, whose number and whose bytes it tells, in format 2 and uncompressed.
+-- A header and the records after it, whose number and whose bytes it tells, in format 2 and
+-- uncompressed.
 pub record IsBatch (b : BatchData) : Type 0 where
   pub front : List ℕ
   pub body : List ℕ
@@ -127,7 +131,8 @@ record_at_place base place r = record { offset = base +ℤ pos place; rec = r }
 -- records at the places from this one on
 abbrev pub placed_records : ℤ → ℕ → List Rec → List RecordAt
 placed_records base place [] = []
-placed_records base place (r ∷ rs) = record_at_place base place r ∷ placed_records base (place + 1) rs
+placed_records base place (r ∷ rs) =
+    record_at_place base place r ∷ placed_records base (place + 1) rs
 
 -- the same of records that are found
 abbrev pub placed_if_found : ℤ → ℕ → Found (List Rec) → Found (List RecordAt)
@@ -135,7 +140,8 @@ placed_if_found base place found = found >>= λ rs. Ok (placed_records base plac
 
 -- another base offset, and the leader epoch 0, in the same bytes
 abbrev pub bytes_with_offset : ℤ → List ℕ → List ℕ
-bytes_with_offset offset bytes = int64.written offset ++ (slice_range bytes 8 12 ++ (int32.written (pos 0) ++ drop 16 bytes))
+bytes_with_offset offset bytes =
+    int64.written offset ++ (slice_range bytes 8 12 ++ (int32.written (pos 0) ++ drop 16 bytes))
 
 -- the same batch at another offset
 abbrev pub written_at : ℤ → BatchData → BatchData

@@ -1,4 +1,5 @@
--- The header of a batch (Kafka documentation, "Message Format", "Record Batch"), and what its attributes say.
+-- The header of a batch (Kafka documentation, "Message Format", "Record Batch"), and what its
+-- attributes say.
 use Rattle.std.specs.Prelude.{ℕ, ℤ, pos, negsuc, ◌+ℤ◌, ◌/◌, ◌%◌, ◌^◌, Bool, ◌==◌, refl}
 use Rattle.std.specs.Int.{w16, cast_unsigned}
 use Rattle.wire_types.specs.Grammar.{Grammar}
@@ -41,7 +42,13 @@ batch_header = struct
                 h.attributes,
                 (
                   h.last_offset_delta,
-                  (h.base_timestamp, (h.max_timestamp, (h.producer_id, (h.producer_epoch, (h.base_sequence, h.record_count))))),
+                  (
+                    h.base_timestamp,
+                    (
+                      h.max_timestamp,
+                      (h.producer_id, (h.producer_epoch, (h.base_sequence, h.record_count))),
+                    ),
+                  ),
                 ),
               ),
             ),
@@ -50,7 +57,8 @@ batch_header = struct
       ),
     ))
     (λ x. refl) (λ h. refl)
-    (int64 ⨟ int32 ⨟ int32 ⨟ int8 ⨟ uint32 ⨟ int16 ⨟ int32 ⨟ int64 ⨟ int64 ⨟ int64 ⨟ int16 ⨟ int32 ⨟ int32)
+    (int64 ⨟ int32 ⨟ int32 ⨟ int8 ⨟ uint32 ⨟ int16 ⨟ int32 ⨟ int64 ⨟ int64 ⨟ int64 ⨟ int16 ⨟ int32 ⨟
+    int32)
 
 -- ---- attributes
 

@@ -37,11 +37,13 @@ control_text outcome header = batch_header.written header ++ marker_text outcome
 
 -- the checksum is of what follows it, from the attributes on
 abbrev pub control_crc : TransactionResult → ℤ → ℤ → ℤ → ℕ
-control_crc outcome producer epoch moment = crc32c (drop 21 (control_text outcome (control_header producer epoch moment 0)))
+control_crc outcome producer epoch moment =
+    crc32c (drop 21 (control_text outcome (control_header producer epoch moment 0)))
 
 abbrev pub control : TransactionResult → ℤ → ℤ → ℤ → BatchData
 control outcome producer epoch moment =
-    let header : BatchHeader = control_header producer epoch moment (control_crc outcome producer epoch moment) in
+    let header : BatchHeader = control_header producer epoch moment
+    (control_crc outcome producer epoch moment) in
     record {
       header = header;
       records = marker_record outcome ∷ [];

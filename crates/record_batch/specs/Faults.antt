@@ -31,9 +31,11 @@ has_records h body = is_ok (all_records (count_of h.record_count) body)
 -- data of a producer, or of none, with nothing after the batch
 unfoldable pub is_valid : BatchHeader → List ℕ → List ℕ → Bool
 is_valid h body bytes =
-    (end_of h.batch_length == length bytes) && not (is_control h) && has_count h && has_producer h && has_records h body
+    (end_of h.batch_length == length bytes) && not (is_control h) && has_count h && has_producer h
+    && has_records h body
 
--- each fault with the test that finds it, in order: first those of the format, and then those of the data
+-- each fault with the test that finds it, in order: first those of the format, and then those of
+-- the data
 abbrev pub data_tests : ℕ → List ℕ → BatchHeader → List ℕ → List (Bool × BatchFault)
 data_tests max bytes h body =
     (not (is_valid h body bytes), Invalid)

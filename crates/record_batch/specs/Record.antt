@@ -1,4 +1,5 @@
--- The grammar of records (Kafka documentation, "Message Format", "Record"): a length, and parts that fill it exactly.
+-- The grammar of records (Kafka documentation, "Message Format", "Record"): a length, and parts
+-- that fill it exactly.
 use Rattle.std.specs.Prelude.{◌≡◌, ℕ, zero, suc, ℤ, pos, ◌+◌, List, [], ◌∷◌, ◌++◌, Option, Result, Ok, refl}
 use Rattle.std.proofs.Common.{lit<, arith}
 use Rattle.wire_types.specs.declared.fault.Malformed.{Malformed}
@@ -30,8 +31,8 @@ no_attributes = record {
   shortest = λ text x h. omega (arith, h.0);
 }
 
--- what stands before a record's key: attributes that say nothing, the timestamp's delta, and the offset's, which is the
--- record's place in its batch
+-- what stands before a record's key: attributes that say nothing, the timestamp's delta, and the
+-- offset's, which is the record's place in its batch
 abbrev pub record_head : ℕ → Grammar ℤ
 record_head place = struct
     (λ (x : Unit {0} × (ℤ × Unit {0})). x.1.0)
@@ -59,7 +60,8 @@ IsRecord place = IsSized varint_count.Spells (record_parts place).Spells
 -- records at this place, the next, and so on
 abbrev pub AreRecords : ℕ → List ℕ → List Rec → Type 0
 AreRecords place text [] = text ≡ []
-AreRecords place text (r ∷ rs) = (a b : List ℕ) × (text ≡ a ++ b) × IsRecord place a r × AreRecords (place + 1) b rs
+AreRecords place text (r ∷ rs) =
+    (a b : List ℕ) × (text ≡ a ++ b) × IsRecord place a r × AreRecords (place + 1) b rs
 
 -- ---- reading them
 
@@ -69,7 +71,8 @@ record_at place = sized_at varint_count.reading (record_parts place).reading
 -- so many records from this place on
 unfoldable pub records_at : ℕ → ℕ → List ℕ → Found (List Rec)
 records_at place zero bytes = Ok ([], bytes)
-records_at place (suc n) bytes = record_at place bytes >>= λ r. records_at (place + 1) n r.1 >>= λ rs. Ok (r.0 ∷ rs.0, rs.1)
+records_at place (suc n) bytes =
+    record_at place bytes >>= λ r. records_at (place + 1) n r.1 >>= λ rs. Ok (r.0 ∷ rs.0, rs.1)
 
 -- so many records and no more bytes
 abbrev pub all_records : ℕ → List ℕ → Result (List Rec) Malformed

@@ -1,4 +1,5 @@
--- What is told before a login of the versions that are served (Kafka protocol guide, "Retrieving Supported API versions").
+-- What is told before a login of the versions that are served (Kafka protocol guide, "Retrieving
+-- Supported API versions").
 use Rattle.std.specs.Prelude.{ℤ, pos, Bool, ◌||◌, map, if◌then◌else◌}
 use Rattle.std.specs.Ordering.{int_eq}
 use Rattle.wire_types.specs.declared.error_code.ErrorCode.TheVariants as codes
@@ -14,8 +15,11 @@ is_looked_for key = int_eq key (pos 10) || int_eq key (pos 17)
 
 -- the api, from version 0 on where librdkafka looks for that
 abbrev pub from_zero : ServedVersions → ServedVersions
-from_zero v = if is_looked_for v.key then record { key = v.key; min = pos 0; max = v.max } else record { key = v.key; min = v.min; max = v.max }
+from_zero v =
+    if is_looked_for v.key then record { key = v.key; min = pos 0; max = v.max }
+    else record { key = v.key; min = v.min; max = v.max }
 
 abbrev pub versions_listed : ListedVersions → ApiVersionsReply
 versions_listed AsServed = versions_reply
-versions_listed ForLibrdkafka = record { error = codes.None; apis = map from_zero versions_reply.apis }
+versions_listed ForLibrdkafka =
+    record { error = codes.None; apis = map from_zero versions_reply.apis }

@@ -5,7 +5,8 @@ use Rattle.msg_admin.specs.Versions.{versions_reply}
 use Rattle.sasl_login.specs.declared.listed.ListedVersions.TheVariants.{AsServed, ForLibrdkafka}
 use Rattle.sasl_login.specs.Listed.{versions_listed}
 
--- the api with its last version; its first one is 0 for FindCoordinator (10) and SaslHandshake (17), and for any other what is served
+-- the api with its last version; its first one is 0 for FindCoordinator (10) and SaslHandshake
+-- (17), and for any other what is served
 pub record IsListedFor (served listed : ServedVersions) : Type 0 where
   pub key : listed.key ≡ served.key
   pub last : listed.max ≡ served.max
@@ -16,4 +17,6 @@ pub record VersionsAreListed : Type 0 where
   pub as_served : versions_listed AsServed ≡ versions_reply
   pub error : (versions_listed ForLibrdkafka).error ≡ versions_reply.error
   pub as_many : length (versions_listed ForLibrdkafka).apis ≡ length versions_reply.apis
-  pub each : (i : ℕ) (served listed : ServedVersions) → slice_get versions_reply.apis i ≡ Some served → slice_get (versions_listed ForLibrdkafka).apis i ≡ Some listed → IsListedFor served listed
+  pub each : (i : ℕ) (served listed : ServedVersions)
+      → slice_get versions_reply.apis i ≡ Some served
+      → slice_get (versions_listed ForLibrdkafka).apis i ≡ Some listed → IsListedFor served listed

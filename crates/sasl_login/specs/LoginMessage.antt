@@ -32,7 +32,8 @@ acts_alone p = length p.0 == 0 || bytes_eq p.0 p.1
 
 -- the user that the message names with its password
 abbrev pub user_of : List User → List ℕ → Option User
-user_of users message = option_and_then (λ p. if acts_alone p then find (is_user p.1 p.2) users else None) (plain_of message)
+user_of users message = option_and_then
+    (λ p. if acts_alone p then find (is_user p.1 p.2) users else None) (plain_of message)
 
 abbrev pub principal_of : User → List ℕ
 principal_of u = codes "User:" ++ u.name

@@ -20,7 +20,8 @@ abbrev pub is_known : SessionState → Bool
 is_known (state.Known k) = true
 is_known s = false
 
--- Who logs in is whom the message names with its password, and it is closed where there is none, unless memory was refused.
+-- Who logs in is whom the message names with its password, and it is closed where there is none,
+-- unless memory was refused.
 abbrev pub LogsIn : Option (List ℕ) → Result Known LoginFault → Type 0
 LogsIn due (Ok known) = due ≡ Some known.who
 LogsIn due (Err (login.Closed closed)) = (due ≡ None) × (closed ≡ sasl_failed)

@@ -28,8 +28,8 @@ use Rattle.sasl_login.specs.declared.listed.ListedVersions.{ListedVersions}
 use Rattle.sasl_login.specs.Listed.{versions_listed}
 use Rattle.sasl_login.specs.LoginMessage.{is_plain, login_of, longest_login}
 
--- the users who may log in, how versions are listed before that, the host that calls, and whether the desk may answer an event
--- by a stop
+-- the users who may log in, how versions are listed before that, the host that calls, and whether
+-- the desk may answer an event by a stop
 pub record Setting : Type 0 where
   pub users : List User
   pub listed : ListedVersions
@@ -38,7 +38,13 @@ pub record Setting : Type 0 where
 
 -- the setting of a login at a desk
 abbrev pub setting_of : LoginContext → (Event → Stop → Bool) → Setting
-setting_of login may_stop = record { users = login.users.now; listed = login.listed; host = login.host.now; may_stop = may_stop }
+setting_of login may_stop =
+    record {
+      users = login.users.now;
+      listed = login.listed;
+      host = login.host.now;
+      may_stop = may_stop;
+    }
 
 -- ---- one frame (Kafka protocol guide, "SASL Authentication Sequence")
 
@@ -63,16 +69,26 @@ abbrev pub known_state : List ℕ → SessionState
 known_state who = Known (record { who = who })
 
 abbrev pub tells_versions : ListedVersions → ℤ → SessionState → Step
-tells_versions listed correlation s = Tells (response correlation (replies.ApiVersions (versions_listed listed))) s
+tells_versions listed correlation s =
+    Tells (response correlation (replies.ApiVersions (versions_listed listed))) s
 
 abbrev pub mechanism_step : ℤ → List ℕ → Step
 mechanism_step correlation mechanism =
-    if is_plain mechanism then Tells (response correlation (replies.SaslHandshake (handshake_reply codes.None))) offered_state
-    else Refuses (response correlation (replies.SaslHandshake (handshake_reply codes.UnsupportedSaslMechanism)))
+    if is_plain mechanism
+    then Tells (response correlation (replies.SaslHandshake (handshake_reply codes.None)))
+    offered_state
+    else Refuses
+    (response correlation
+    (replies.SaslHandshake (handshake_reply codes.UnsupportedSaslMechanism)))
 
 abbrev pub logs_in : ℤ → Option (List ℕ) → Step
-logs_in correlation (Some who) = Tells (response correlation (replies.SaslAuthenticate (authenticate_reply codes.None))) (known_state who)
-logs_in correlation None = Refuses (response correlation (replies.SaslAuthenticate (authenticate_reply codes.SaslAuthenticationFailed)))
+logs_in correlation (Some who) =
+    Tells (response correlation (replies.SaslAuthenticate (authenticate_reply codes.None)))
+    (known_state who)
+logs_in correlation None =
+    Refuses
+    (response correlation
+    (replies.SaslAuthenticate (authenticate_reply codes.SaslAuthenticationFailed)))
 
 -- before a mechanism was agreed on
 abbrev pub fresh_step : ListedVersions → ℤ → Request → Step
@@ -82,13 +98,16 @@ fresh_step listed correlation _ = Refuses []
 
 -- before a password was told
 abbrev pub offered_step : ListedVersions → List User → ℤ → Request → Step
-offered_step listed users correlation requests.ApiVersions = tells_versions listed correlation offered_state
-offered_step listed users correlation (requests.SaslAuthenticate m) = logs_in correlation (login_of users m.auth)
+offered_step listed users correlation requests.ApiVersions =
+    tells_versions listed correlation offered_state
+offered_step listed users correlation (requests.SaslAuthenticate m) =
+    logs_in correlation (login_of users m.auth)
 offered_step listed users correlation _ = Refuses []
 
 -- only who is known asks, and as itself
 abbrev pub known_step : List ℕ → List ℕ → Header → Request → Step
-known_step who host h r = Submits h.correlation (Ask (record { who = who; host = host }) h.client r) (known_state who)
+known_step who host h r =
+    Submits h.correlation (Ask (record { who = who; host = host }) h.client r) (known_state who)
 
 -- what a request leads to
 abbrev pub request_step : Setting → SessionState → Header → Request → Step
@@ -106,7 +125,8 @@ step_if_readable g s (Err e) = Garbles
 abbrev pub start_of : List ℕ → Option ((ℤ × ℤ) × ℤ)
 start_of frame = option_map (λ x. x.0) (result_ok (header_start.reading frame))
 
--- Before a login ApiVersions (18) is served, and SaslHandshake (17) or SaslAuthenticate (36); after it each api is.
+-- Before a login ApiVersions (18) is served, and SaslHandshake (17) or SaslAuthenticate (36); after
+-- it each api is.
 abbrev pub is_served : SessionState → ℤ → Bool
 is_served (Fresh f) key = int_eq key (pos 18) || int_eq key (pos 17)
 is_served (Offered o) key = int_eq key (pos 18) || int_eq key (pos 36)
@@ -117,17 +137,19 @@ abbrev pub is_login : SessionState → ℤ × ℤ → Bool
 is_login (Offered o) names = int_eq names.0 (pos 36) && int_eq names.1 (pos 0)
 is_login s names = false
 
--- The longest frame whose body is read before a login. A header has 10 bytes at most, and 32,767 of a client's name. After it
--- stand nothing, or 2 bytes and 32,767 of a mechanism's name, or 4 bytes and a user's message.
+-- The longest frame whose body is read before a login. A header has 10 bytes at most, and 32,767 of
+-- a client's name. After it stand nothing, or 2 bytes and 32,767 of a mechanism's name, or 4 bytes
+-- and a user's message.
 abbrev pub longest_before_login : List User → ℕ
 longest_before_login users = max 65546 (32781 + longest_login users)
 
--- What a frame leads to by what it starts with: what isn't served is refused without an answer, and a login that is longer than
--- any, as a wrong password is.
+-- What a frame leads to by what it starts with: what isn't served is refused without an answer, and
+-- a login that is longer than any, as a wrong password is.
 abbrev pub step_by_start : Setting → SessionState → List ℕ → (ℤ × ℤ) × ℤ → Step
 step_by_start g s frame x =
     if not (is_served s x.0.0) then Refuses []
-    else if is_login s x.0 && nat_lt (longest_before_login g.users) (length frame) then logs_in x.1 None
+    else if is_login s x.0 && nat_lt (longest_before_login g.users) (length frame)
+    then logs_in x.1 None
     else step_if_readable g s (request_at frame)
 
 abbrev pub step_by_start_if_any : Setting → SessionState → List ℕ → Option ((ℤ × ℤ) × ℤ) → Step
@@ -156,14 +178,16 @@ abbrev pub asks_of : Setting → SessionState → List (List ℕ) → List Event
 asks_of g s [] = []
 asks_of g s (frame ∷ frames) = events_then (step_of g s frame) (λ t. asks_of g t frames)
 
-abbrev pub text_then : Step → (SessionState → List ReceiptValue → List ℕ) → List ReceiptValue → List ℕ
+abbrev pub text_then : Step → (SessionState → List ReceiptValue → List ℕ) → List ReceiptValue
+    → List ℕ
 text_then (Tells b t) more rs = b ++ more t rs
 text_then (Submits c e t) more [] = []
 text_then (Submits c e t) more (r ∷ rs) = response c r.reply ++ more t rs
 text_then (Refuses b) more rs = b
 text_then Garbles more rs = []
 
--- what is written to frames: own answers, and the reply of the next receipt, up to the first event without one
+-- what is written to frames: own answers, and the reply of the next receipt, up to the first event
+-- without one
 abbrev pub text_of : Setting → SessionState → List (List ℕ) → List ReceiptValue → List ℕ
 text_of g s [] rs = []
 text_of g s (frame ∷ frames) rs = text_then (step_of g s frame) (λ t. text_of g t frames) rs
@@ -188,7 +212,8 @@ abbrev pub text : Setting → ℕ → ℕ → SessionState → List ℕ → List
 text g n limit s input rs = text_of g s (frames_of n limit input).frames rs
 
 abbrev pub ending_why : Setting → ℕ → ℕ → SessionState → List ℕ → EndReason
-ending_why g n limit s input = end_of g s (frames_of n limit input).frames (frames_of n limit input).why
+ending_why g n limit s input =
+    end_of g s (frames_of n limit input).frames (frames_of n limit input).why
 
 abbrev pub events_held : List ReceiptValue → List Event
 events_held rs = map (λ (r : ReceiptValue). r.event) rs

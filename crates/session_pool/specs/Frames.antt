@@ -23,7 +23,8 @@ abbrev pub frames_by_front : Front → (List ℕ → Cut) → Cut
 frames_by_front Nothing more = record { frames = []; why = why.Closed }
 frames_by_front Part more = record { frames = []; why = why.Cut }
 frames_by_front Bad more = record { frames = []; why = why.BadFrame }
-frames_by_front (Whole frame rest) more = record { frames = frame ∷ (more rest).frames; why = (more rest).why }
+frames_by_front (Whole frame rest) more =
+    record { frames = frame ∷ (more rest).frames; why = (more rest).why }
 
 -- at most so many frames, none above the limit
 abbrev pub frames_of : ℕ → ℕ → List ℕ → Cut

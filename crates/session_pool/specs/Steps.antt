@@ -18,8 +18,8 @@ goes_on halts (Err why) = not halts
 
 -- ---- steps by a clock: what is remembered is the clock, and how many markers are pending
 
--- A mark as long as markers are pending. Else a tick of the moment that the clock gives, and no step
--- where it gives none.
+-- A mark as long as markers are pending. Else a tick of the moment that the clock gives, and no
+-- step where it gives none.
 abbrev pub GivenByClock : {C : Type 0} → (C → Bool → Option ℕ → C → Type 0)
     → C × ℕ → Bool → Option Step → C × ℕ → Type 0
 GivenByClock gives (clock, zero) done step (later, left) =

@@ -8,7 +8,8 @@ use Rattle.session_workers.specs.declared.settlement.SettleFault.TheVariants.{St
 
 -- the event and the reply of the receipt are the trail's at its place
 abbrev pub IsInTrail : List Entry → ReceiptValue → Type 0
-IsInTrail trail r = IsSomeAnd (slice_get trail r.place) (λ entry. (entry.event ≡ r.event) × (entry.reply ≡ r.reply))
+IsInTrail trail r =
+    IsSomeAnd (slice_get trail r.place) (λ entry. (entry.event ≡ r.event) × (entry.reply ≡ r.reply))
 
 -- how many receipts hold a place
 abbrev pub times_held : ℕ → List ReceiptValue → ℕ
@@ -31,7 +32,9 @@ pub record Settles (trail : List Entry) (ends : List (Vec ReceiptValue Global)) 
 abbrev pub Faults : List Entry → List (Vec ReceiptValue Global) → SettleFault → Type 0
 Faults trail ends Stray = Any (λ v. Any (λ r. ¬ IsInTrail trail r) v.items) ends
 Faults trail ends Twice = AreInTrail trail ends × ((place : ℕ) × (1 < times_in place ends))
-Faults trail ends Missing = AreInTrail trail ends × ((place : ℕ) → place < length trail → times_in place ends ≤ 1) × ((place : ℕ) × (place < length trail) × (times_in place ends ≡ 0))
+Faults trail ends Missing =
+    AreInTrail trail ends × ((place : ℕ) → place < length trail → times_in place ends ≤ 1)
+    × ((place : ℕ) × (place < length trail) × (times_in place ends ≡ 0))
 Faults trail ends NoMemory = AreInTrail trail ends
 
 -- how often a place was ticked off

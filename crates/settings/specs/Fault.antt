@@ -1,4 +1,5 @@
--- What can be wrong with settings. Faults are looked for over the whole settings, one kind after the other.
+-- What can be wrong with settings. Faults are looked for over the whole settings, one kind after
+-- the other.
 use Rattle.std.specs.Prelude.{ℕ, ℤ, pos, negsuc, Bool, true, false, not, ◌&&◌, nat_le, List, [], ◌∷◌, length, Option, Some, None, if◌then◌else◌}
 use Rattle.std.specs.List.{list_all, list_any}
 use Rattle.std.specs.Str.{bytes_eq}
@@ -47,7 +48,8 @@ are_bindings_within acls = nat_le (length acls) 100000 && list_all is_binding_wi
 abbrev pub is_in_range : Settings → Bool
 is_in_range s =
     are_numbers_within s && (is_host_within s.host
-    && (are_topics_within s.topics && (are_bindings_within s.acls && list_all is_text_within s.supers)))
+    && (are_topics_within s.topics
+    && (are_bindings_within s.acls && list_all is_text_within s.supers)))
 
 -- ---- names
 
@@ -57,7 +59,8 @@ are_topic_names topics = list_all (λ (t : TopicSetting). is_topic_name t.name) 
 -- no topic stands twice
 abbrev pub are_distinct : List TopicSetting → Bool
 are_distinct [] = true
-are_distinct (t ∷ ts) = not (list_any (λ (u : TopicSetting). bytes_eq t.name u.name) ts) && are_distinct ts
+are_distinct (t ∷ ts) =
+    not (list_any (λ (u : TopicSetting). bytes_eq t.name u.name) ts) && are_distinct ts
 
 -- ---- the first fault
 

@@ -1,5 +1,5 @@
--- What a settings text sets, or what is wrong with it first. Faults are looked for over the whole document, one kind
--- after the other.
+-- What a settings text sets, or what is wrong with it first. Faults are looked for over the whole
+-- document, one kind after the other.
 use Rattle.std.specs.Prelude.{◌≡◌, ◌≢◌, ℕ, not, if◌then◌else◌, List, codes, Option, Some, None, Result, Ok, Err}
 use Rattle.std.specs.Str.{is_utf8}
 use Rattle.toml.specs.Data.{Members}
@@ -39,7 +39,8 @@ checked_document_by d (Some fault) = Err (text_fault fault)
 
 -- the users first, then the settings
 abbrev pub checked_document : Document → Result Document SettingsFault
-checked_document d = if not (are_users d.users) then Err User else checked_document_by d (first_fault d.settings)
+checked_document d =
+    if not (are_users d.users) then Err User else checked_document_by d (first_fault d.settings)
 
 abbrev pub keyed_document : Option Document → Result Document SettingsFault
 keyed_document None = Err Key
@@ -49,7 +50,8 @@ abbrev pub parsed_document : Option Members → Result Document SettingsFault
 parsed_document None = Err Toml
 parsed_document (Some ms) = keyed_document (document_of ms)
 
--- a text of UTF-8 that is a TOML document, whose keys are right, whose users are, and whose settings are
+-- a text of UTF-8 that is a TOML document, whose keys are right, whose users are, and whose
+-- settings are
 abbrev pub document_of_text : List ℕ → Result Document SettingsFault
 document_of_text bytes = if is_utf8 bytes then parsed_document (parse_document bytes) else Err Toml
 

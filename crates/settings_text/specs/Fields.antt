@@ -7,7 +7,8 @@ use Rattle.toml.specs.Data.{Data, array, Items, no_items, item, Members, no_memb
 use Rattle.settings_text.specs.declared.fields.FieldFault.{FieldFault}
 use Rattle.settings_text.specs.declared.fields.FieldFault.TheVariants.{Key, NoMemory}
 
--- what was read is what is due: nothing is due at `Key`, and nothing is said where memory was refused
+-- what was read is what is due: nothing is due at `Key`, and nothing is said where memory was
+-- refused
 abbrev pub Reads : {A B : Type 0} → (A → B) → Option B → Result A FieldFault → Type 0
 Reads see due (Ok x) = due ≡ Some (see x)
 Reads see due (Err Key) = due ≡ None
@@ -48,7 +49,8 @@ word_field named key ms = option_and_then named (text_field key ms)
 -- each item read; nothing where one can't be
 abbrev pub values_of_each : {A : Type 0} → (Data → Option A) → Items → Option (List A)
 values_of_each read no_items = Some []
-values_of_each read (item d ds) = option_and_then (λ x. option_map (λ xs. x ∷ xs) (values_of_each read ds)) (read d)
+values_of_each read (item d ds) =
+    option_and_then (λ x. option_map (λ xs. x ∷ xs) (values_of_each read ds)) (read d)
 
 abbrev items_or_none : Option Data → Option Items
 items_or_none None = Some no_items

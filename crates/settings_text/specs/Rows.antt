@@ -40,7 +40,8 @@ topic_keys = codes "name" ∷ codes "partitions" ∷ []
 abbrev pub topic_of : Data → Option TopicSetting
 topic_of d =
     row_of topic_keys d >>= (λ ms.
-    text_field (codes "name") ms >>= (λ name. number_field (codes "partitions") ms >>= (λ partitions.
+    text_field (codes "name") ms
+    >>= (λ name. number_field (codes "partitions") ms >>= (λ partitions.
     Some (record { name = name; partitions = partitions }))))
 
 -- ---- bindings
@@ -66,7 +67,8 @@ permission_field ms = word_field permission_named (codes "permission") ms
 abbrev pub binding_of : Data → Option Binding
 binding_of d =
     row_of acl_keys d >>= (λ ms.
-    kind_field ms >>= (λ kind. text_field (codes "name") ms >>= (λ name. pattern_field ms >>= (λ pattern.
+    kind_field ms
+    >>= (λ kind. text_field (codes "name") ms >>= (λ name. pattern_field ms >>= (λ pattern.
     text_field (codes "principal") ms >>= (λ principal. text_field (codes "host") ms >>= (λ host.
     operation_field ms >>= (λ operation. permission_field ms >>= (λ permission.
     Some (record {
@@ -88,7 +90,8 @@ settings_of ms =
     number_or (pos 1048576) (codes "trail_limit") ms >>= (λ trail_limit.
     number_or (pos 1048588) (codes "max_batch") ms >>= (λ max_batch.
     number_or (pos 900000) (codes "max_txn_timeout") ms >>= (λ max_txn_timeout.
-    list_field topic_of (codes "topic") ms >>= (λ topics. list_field binding_of (codes "acl") ms >>= (λ acls.
+    list_field topic_of (codes "topic") ms
+    >>= (λ topics. list_field binding_of (codes "acl") ms >>= (λ acls.
     Some (record {
       node_id = node_id;
       host = host;
@@ -103,7 +106,8 @@ settings_of ms =
 
 abbrev top_keys : List (List ℕ)
 top_keys =
-    codes "node_id" ∷ codes "host" ∷ codes "port" ∷ codes "supers" ∷ codes "trail_limit" ∷ codes "max_batch"
+    codes "node_id" ∷ codes "host" ∷ codes "port" ∷ codes "supers" ∷ codes "trail_limit"
+    ∷ codes "max_batch"
     ∷ codes "max_txn_timeout" ∷ codes "user" ∷ codes "topic" ∷ codes "acl" ∷ []
 
 abbrev pub document_of : Members → Option Document

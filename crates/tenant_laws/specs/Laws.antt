@@ -1,4 +1,5 @@
--- What a request leaves: worlds that agree on what it is granted go on agreeing, and what it isn't granted is as before.
+-- What a request leaves: worlds that agree on what it is granted go on agreeing, and what it isn't
+-- granted is as before.
 use Rattle.std.specs.Prelude.{◌≡◌, ◌⊎◌, ℕ, Bool, true, List, [], ◌∷◌, map, Option, None, is_some}
 use Rattle.std.specs.List.{AllByRecursion, filter}
 use Rattle.std.specs.Str.{bytes_eq}
@@ -35,8 +36,8 @@ pub record SameReceipt (a b : CoreValue) (e : Event) : Type 0 where
 
 -- ---- what goes on
 
--- the same settings but for topics, moment and number of events, and as many producer ids given out, each of them free in
--- both or owned in both; whatever the books are
+-- the same settings but for topics, moment and number of events, and as many producer ids given
+-- out, each of them free in both or owned in both; whatever the books are
 pub record SameButForBook (v w : World) : Type 0 where
   pub node : v.node ≡ w.node
   pub supers : v.supers ≡ w.supers
@@ -46,22 +47,27 @@ pub record SameButForBook (v w : World) : Type 0 where
 
 -- each of the questions has the same verdict
 abbrev pub SameVerdicts : World → World → List Question → Type 0
-SameVerdicts v w questions = AllByRecursion (λ (q : Question). verdict v.book v.supers q ≡ verdict w.book w.supers q) questions
+SameVerdicts v w questions =
+    AllByRecursion (λ (q : Question). verdict v.book v.supers q ≡ verdict w.book w.supers q)
+    questions
 
 -- the request asks the same in both worlds, which agree on all that it is granted
 pub record SameForRequest (v w : World) (caller : Caller) (request : Request) : Type 0 where
   pub base : SameButForBook v w
   pub questions : parts_of (rules_of v) caller request ≡ parts_of (rules_of w) caller request
   pub verdicts : SameVerdicts v w (questions_of (rules_of w) caller request)
-  -- on each topic, group and transactional id on which a question is granted: whether it is there, and all that it holds
+  -- on each topic, group and transactional id on which a question is granted: whether it is there,
+  -- and all that it holds
   pub granted : SameGranted v w (questions_of (rules_of w) caller request)
   -- and where it is about the book of bindings: on the book
   pub bindings : is_about_bindings request ≡ true → v.book ≡ w.book
 
--- after the event the worlds agree in what they agreed before it, but for the book: their base, and each resource
+-- after the event the worlds agree in what they agreed before it, but for the book: their base, and
+-- each resource
 pub record GoOnAgreeing (v w : World) (e : Event) : Type 0 where
   pub base : SameButForBook (step v e) (step w e)
-  pub resources : (kind : Kind) (name : List ℕ) → SameOn v w kind name → SameOn (step v e) (step w e) kind name
+  pub resources : (kind : Kind) (name : List ℕ) → SameOn v w kind name
+      → SameOn (step v e) (step w e) kind name
 
 abbrev pub AgreementGoesOn : Type 0
 AgreementGoesOn = (v w : World) (caller : Caller) (client : Option (List ℕ)) (request : Request)
@@ -84,15 +90,19 @@ AsksAbout kind name (q ∷ qs) = IsAbout kind name q ⊎ AsksAbout kind name qs
 
 -- no part that asks about the resource is granted
 abbrev pub NoPartIsGranted : World → Kind → List ℕ → List (List Question) → Type 0
-NoPartIsGranted w kind name parts = AllByRecursion (λ part. AsksAbout kind name part → part_refusal (rules_of w) part ≡ None → ⊥) parts
+NoPartIsGranted w kind name parts =
+    AllByRecursion (λ part. AsksAbout kind name part → part_refusal (rules_of w) part ≡ None → ⊥)
+    parts
 
 -- no question about the resource is granted
 abbrev pub NoQuestionIsGranted : World → Kind → List ℕ → List Question → Type 0
-NoQuestionIsGranted w kind name questions = AllByRecursion (λ q. IsAbout kind name q → verdict w.book w.supers q ≡ Yes → ⊥) questions
+NoQuestionIsGranted w kind name questions =
+    AllByRecursion (λ q. IsAbout kind name q → verdict w.book w.supers q ≡ Yes → ⊥) questions
 
 -- the event is a request, of which no question about the resource is granted
 abbrev pub IsUngranted : World → Kind → List ℕ → Event → Type 0
-IsUngranted w kind name (Ask caller client request) = NoQuestionIsGranted w kind name (questions_of (rules_of w) caller request)
+IsUngranted w kind name (Ask caller client request) =
+    NoQuestionIsGranted w kind name (questions_of (rules_of w) caller request)
 IsUngranted w kind name Mark = ⊥
 IsUngranted w kind name (Tick told) = ⊥
 
@@ -105,7 +115,8 @@ AreUngranted w kind name (e ∷ es) = IsUngranted w kind name e × AreUngranted 
 abbrev pub pending_markers_of : List ℕ → List PendingMarker → List PendingMarker
 pending_markers_of id warrants = filter (λ (m : PendingMarker). bytes_eq m.id id) warrants
 
--- what no request changes: the node, the super users, the moment, and which topics there are, in order
+-- what no request changes: the node, the super users, the moment, and which topics there are, in
+-- order
 pub record KeepsSettings (w new : World) : Type 0 where
   pub node : new.node ≡ w.node
   pub supers : new.supers ≡ w.supers
@@ -115,16 +126,26 @@ pub record KeepsSettings (w new : World) : Type 0 where
 -- What a request leaves as it was: by its parts, and so by its questions.
 pub record UngrantedStays : Type 0 where
   -- a topic with its logs, a group, a transactional id
-  pub by_parts : (w : World) (caller : Caller) (client : Option (List ℕ)) (request : Request) (kind : Kind) (name : List ℕ)
-      → NoPartIsGranted w kind name (parts_of (rules_of w) caller request) → SameOn w (step w (Ask caller client request)) kind name
-  pub by_questions : (w : World) (caller : Caller) (client : Option (List ℕ)) (request : Request) (kind : Kind) (name : List ℕ)
-      → NoQuestionIsGranted w kind name (questions_of (rules_of w) caller request) → SameOn w (step w (Ask caller client request)) kind name
-  pub over_events : (w : World) (kind : Kind) (name : List ℕ) (events : List Event) → AreUngranted w kind name events → SameOn w (world_after_events w events) kind name
+  pub by_parts : (w : World) (caller : Caller) (client : Option (List ℕ)) (request : Request)
+      (kind : Kind) (name : List ℕ)
+      → NoPartIsGranted w kind name (parts_of (rules_of w) caller request)
+      → SameOn w (step w (Ask caller client request)) kind name
+  pub by_questions : (w : World) (caller : Caller) (client : Option (List ℕ)) (request : Request)
+      (kind : Kind) (name : List ℕ)
+      → NoQuestionIsGranted w kind name (questions_of (rules_of w) caller request)
+      → SameOn w (step w (Ask caller client request)) kind name
+  pub over_events : (w : World) (kind : Kind) (name : List ℕ) (events : List Event)
+      → AreUngranted w kind name events → SameOn w (world_after_events w events) kind name
   -- what a transactional id owes
-  pub owed : (w : World) (caller : Caller) (client : Option (List ℕ)) (request : Request) (id : List ℕ)
-      → NoPartIsGranted w TransactionalId id (parts_of (rules_of w) caller request) → pending_markers_of id (step w (Ask caller client request)).coordinator.warrants ≡ pending_markers_of id w.coordinator.warrants
+  pub owed : (w : World) (caller : Caller) (client : Option (List ℕ)) (request : Request)
+      (id : List ℕ)
+      → NoPartIsGranted w TransactionalId id (parts_of (rules_of w) caller request)
+      → pending_markers_of id (step w (Ask caller client request)).coordinator.warrants
+      ≡ pending_markers_of id w.coordinator.warrants
   -- the book of bindings, which is the cluster's
   pub book : (w : World) (caller : Caller) (client : Option (List ℕ)) (request : Request)
-      → NoQuestionIsGranted w Cluster cluster_name (questions_of (rules_of w) caller request) → (step w (Ask caller client request)).book ≡ w.book
+      → NoQuestionIsGranted w Cluster cluster_name (questions_of (rules_of w) caller request)
+      → (step w (Ask caller client request)).book ≡ w.book
   -- and whatever was granted
-  pub settings : (w : World) (caller : Caller) (client : Option (List ℕ)) (request : Request) → KeepsSettings w (step w (Ask caller client request))
+  pub settings : (w : World) (caller : Caller) (client : Option (List ℕ)) (request : Request)
+      → KeepsSettings w (step w (Ask caller client request))

@@ -1,5 +1,5 @@
--- Two runs of the broker side by side. In both a tenant asks the same; meanwhile others ask in each what they like, but
--- for what is the tenant's. The tenant is told the same.
+-- Two runs of the broker side by side. In both a tenant asks the same; meanwhile others ask in each
+-- what they like, but for what is the tenant's. The tenant is told the same.
 use Rattle.std.specs.Prelude.{◌≡◌, ℕ, Bool, true, List, [], ◌∷◌}
 use Rattle.std.specs.List.{AllByRecursion}
 use Rattle.acl_binding.specs.declared.question.Caller.{Caller}
@@ -25,8 +25,9 @@ use Rattle.api_laws.specs.Tenants.{SameOn}
 use Rattle.tenant_laws.specs.Laws.{SameButForBook, SameVerdicts, AgreeAmong}
 use Rattle.tenant_laws.specs.Replies.{described_sizes, comes_to_all}
 
--- In a round each run takes an event: the tenant's request, the same in both; one of others in each; a tick of the clock,
--- which both see; or the marker step of a marker that is pending first in both.
+-- In a round each run takes an event: the tenant's request, the same in both; one of others in
+-- each; a tick of the clock, which both see; or the marker step of a marker that is pending first
+-- in both.
 pub data Round : Type 0 where
   Asks : Event → Round
   Others : Event → Event → Round
@@ -51,14 +52,18 @@ second_run_entries w (Marks ∷ rounds) = second_run_entries (step w Mark) round
 -- ---- the tenant's request
 
 -- By the books that are in force in the two runs.
-pub record AsksWithin (among : Kind → List ℕ → Bool) (v w : World) (caller : Caller) (request : Request) : Type 0 where
+pub record AsksWithin (among : Kind → List ℕ → Bool) (v w : World) (caller : Caller)
+    (request : Request) : Type 0 where
   -- what is granted of the request is among the resources
-  pub granted : AllByRecursion (λ (q : Question). verdict w.book w.supers q ≡ Yes → among q.kind q.name ≡ true) (questions_of (rules_of w) caller request)
+  pub granted : AllByRecursion
+      (λ (q : Question). verdict w.book w.supers q ≡ Yes → among q.kind q.name ≡ true)
+      (questions_of (rules_of w) caller request)
   -- it asks the same in both, and each of its questions has the same verdict
   pub questions : parts_of (rules_of v) caller request ≡ parts_of (rules_of w) caller request
   pub verdicts : SameVerdicts v w (questions_of (rules_of w) caller request)
   -- where it comes to all topics that may be described: these are the same, with as many partitions
-  pub described : comes_to_all (rules_of w) caller request ≡ true → described_sizes (rules_of v) caller v.topics ≡ described_sizes (rules_of w) caller w.topics
+  pub described : comes_to_all (rules_of w) caller request ≡ true
+      → described_sizes (rules_of v) caller v.topics ≡ described_sizes (rules_of w) caller w.topics
   -- where it is about the book: that is the same
   pub bindings : is_about_bindings request ≡ true → v.book ≡ w.book
 
@@ -70,10 +75,11 @@ IsWithin among v w (Tick told) = ⊥
 
 -- ---- what others ask
 
--- the event leaves each of the resources as it is, as a request does that is granted nothing of them, or only to read, and
--- the marker step of another's marker
+-- the event leaves each of the resources as it is, as a request does that is granted nothing of
+-- them, or only to read, and the marker step of another's marker
 abbrev pub LeavesAlone : (Kind → List ℕ → Bool) → World → Event → Type 0
-LeavesAlone among w e = (kind : Kind) (name : List ℕ) → among kind name ≡ true → SameOn w (step w e) kind name
+LeavesAlone among w e =
+    (kind : Kind) (name : List ℕ) → among kind name ≡ true → SameOn w (step w e) kind name
 
 -- ---- a marker
 
@@ -82,8 +88,8 @@ abbrev pub GoesAmong : (Kind → List ℕ → Bool) → Target → Type 0
 GoesAmong among (Partition p) = among kinds.Topic p.topic ≡ true
 GoesAmong among (Group name) = among kinds.Group name ≡ true
 
--- the same marker is pending first in both, of an id and to a place among the resources, and the id owes more in both or in
--- neither
+-- the same marker is pending first in both, of an id and to a place among the resources, and the id
+-- owes more in both or in neither
 pub record OweAlike (among : Kind → List ℕ → Bool) (v w : World) : Type 0 where
   pub marker : PendingMarker
   pub own : among kinds.TransactionalId marker.id ≡ true
@@ -96,15 +102,22 @@ pub record OweAlike (among : Kind → List ℕ → Bool) (v w : World) : Type 0 
 
 -- ---- the runs
 
--- By the books that are in force in each round the tenant is granted nothing but these resources, which others leave as they
--- are. What others do leaves the same moment in both runs, and as many producer ids given out.
+-- By the books that are in force in each round the tenant is granted nothing but these resources,
+-- which others leave as they are. What others do leaves the same moment in both runs, and as many
+-- producer ids given out.
 abbrev pub AreApart : (Kind → List ℕ → Bool) → World → World → List Round → Type 0
 AreApart among v w [] = Unit {0}
-AreApart among v w (Asks e ∷ rounds) = IsWithin among v w e × AreApart among (step v e) (step w e) rounds
-AreApart among v w (Others e f ∷ rounds) = LeavesAlone among v e × LeavesAlone among w f × SameButForBook (step v e) (step w f) × AreApart among (step v e) (step w f) rounds
-AreApart among v w (Ticks told ∷ rounds) = AreApart among (step v (Tick told)) (step w (Tick told)) rounds
-AreApart among v w (Marks ∷ rounds) = OweAlike among v w × AreApart among (step v Mark) (step w Mark) rounds
+AreApart among v w (Asks e ∷ rounds) =
+    IsWithin among v w e × AreApart among (step v e) (step w e) rounds
+AreApart among v w (Others e f ∷ rounds) =
+    LeavesAlone among v e × LeavesAlone among w f × SameButForBook (step v e) (step w f)
+    × AreApart among (step v e) (step w f) rounds
+AreApart among v w (Ticks told ∷ rounds) =
+    AreApart among (step v (Tick told)) (step w (Tick told)) rounds
+AreApart among v w (Marks ∷ rounds) =
+    OweAlike among v w × AreApart among (step v Mark) (step w Mark) rounds
 
 abbrev pub OthersAreUnseen : Type 0
 OthersAreUnseen = (among : Kind → List ℕ → Bool) (v w : World) (rounds : List Round)
-    → AgreeAmong among v w → AreApart among v w rounds → first_run_entries v rounds ≡ second_run_entries w rounds
+    → AgreeAmong among v w → AreApart among v w rounds
+    → first_run_entries v rounds ≡ second_run_entries w rounds

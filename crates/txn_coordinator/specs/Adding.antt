@@ -1,4 +1,5 @@
--- AddPartitionsToTxn and AddOffsetsToTxn (KIP-98, 'AddPartitionsToTxnRequest', 'AddOffsetsToTxnRequest').
+-- AddPartitionsToTxn and AddOffsetsToTxn (KIP-98, 'AddPartitionsToTxnRequest',
+-- 'AddOffsetsToTxnRequest').
 use Rattle.std.specs.Prelude.{ℕ, List, [], ◌∷◌, ◌++◌, Option, Some, None, Result, Ok, Err, if◌then◌else◌}
 use Rattle.wire_types.specs.declared.error_code.ErrorCode.{ErrorCode}
 use Rattle.wire_types.specs.declared.error_code.ErrorCode.TheVariants as codes
@@ -51,11 +52,15 @@ open_by None t moment = open_in t.state t moment
 
 abbrev pub open_found : Option Transaction → ProducerIdAndEpoch → ℕ → Result Transaction ErrorCode
 open_found None pair moment = Err codes.InvalidProducerIdMapping
-open_found (Some t) pair moment = open_by (producer_refusal codes.InvalidProducerEpoch t pair) t moment
+open_found (Some t) pair moment =
+    open_by (producer_refusal codes.InvalidProducerEpoch t pair) t moment
 
 -- the transaction of the id that a call with this pair adds to, or its refusal
-abbrev pub open_transaction : CoordinatorValue → List ℕ → ProducerIdAndEpoch → ℕ → Result Transaction ErrorCode
-open_transaction c id pair moment = if is_empty id then Err codes.InvalidRequest else open_found (id_record c.transactions id) pair moment
+abbrev pub open_transaction : CoordinatorValue → List ℕ → ProducerIdAndEpoch → ℕ
+    → Result Transaction ErrorCode
+open_transaction c id pair moment =
+    if is_empty id then Err codes.InvalidRequest
+    else open_found (id_record c.transactions id) pair moment
 
 abbrev pub refusal_of : Result Transaction ErrorCode → Option ErrorCode
 refusal_of (Ok t) = None
@@ -63,11 +68,13 @@ refusal_of (Err code) = Some code
 
 -- one that isn't refused, once it is open
 abbrev pub opened_transaction : Transaction → ℕ → Transaction
-opened_transaction t moment = if is_ongoing t.state then record t { kept = None } else begun_transaction t moment
+opened_transaction t moment =
+    if is_ongoing t.state then record t { kept = None } else begun_transaction t moment
 
 -- ---- the calls
 
-abbrev pub growth_transition : (Transaction → Transaction) → Result Transaction ErrorCode → Transition
+abbrev pub growth_transition : (Transaction → Transaction) → Result Transaction ErrorCode
+    → Transition
 growth_transition grow (Ok t) = Puts codes.None (grow t) [] []
 growth_transition grow (Err code) = Stays code
 
@@ -77,9 +84,12 @@ record_after (Stays code) t = t
 record_after (Puts code new given owed) t = new
 
 -- where no partition is named, nothing changes
-abbrev pub add_partitions : CoordinatorValue → List ℕ → ProducerIdAndEpoch → ℕ → List TopicPartition → Transition
+abbrev pub add_partitions : CoordinatorValue → List ℕ → ProducerIdAndEpoch → ℕ → List TopicPartition
+    → Transition
 add_partitions c id pair moment [] = Stays codes.None
-add_partitions c id pair moment (p ∷ ps) = growth_transition (with_partitions (p ∷ ps)) (open_transaction c id pair moment)
+add_partitions c id pair moment (p ∷ ps) =
+    growth_transition (with_partitions (p ∷ ps)) (open_transaction c id pair moment)
 
 abbrev pub add_group : CoordinatorValue → List ℕ → ProducerIdAndEpoch → ℕ → List ℕ → Transition
-add_group c id pair moment group = growth_transition (with_group group) (open_transaction c id pair moment)
+add_group c id pair moment group =
+    growth_transition (with_group group) (open_transaction c id pair moment)

@@ -7,7 +7,8 @@ use Rattle.txn_coordinator.specs.Transition.{Transition, Stays, Puts}
 use Rattle.txn_coordinator.specs.Words.{last_epoch}
 use Rattle.txn_coordinator.specs.Coordinator.{CoordinatorValue}
 
--- the producer id is one of those given out, so many as there are, and the epoch one from 0 to the last
+-- the producer id is one of those given out, so many as there are, and the epoch one from 0 to the
+-- last
 pub record IsIdAndEpochInRange (given : ℕ) (p : ProducerIdAndEpoch) : Type 0 where
   pub from_zero : pos 0 ≤ℤ p.producer
   pub given_out : p.producer <ℤ pos given

@@ -1,4 +1,5 @@
--- What a call changes of a record that is there: where its id stands, and nothing of what was added to its transaction.
+-- What a call changes of a record that is there: where its id stands, and nothing of what was added
+-- to its transaction.
 use Rattle.txn_coordinator.specs.declared.transaction.Transaction.{Transaction}
 use Rattle.txn_coordinator.specs.declared.change.Standing.{Standing}
 use Rattle.txn_coordinator.specs.declared.change.Change.{Change}

@@ -1,4 +1,5 @@
--- All that the transaction coordinator keeps, and what a call comes to (KIP-98, 'Transaction Coordinator').
+-- All that the transaction coordinator keeps, and what a call comes to (KIP-98, 'Transaction
+-- Coordinator').
 use Rattle.std.specs.Prelude.{ℕ, ℤ, pos, negsuc, Bool, List, [], ◌∷◌, ◌++◌, length, slice_get, Option, Some, None, if◌then◌else◌}
 use Rattle.std.specs.List.{find}
 use Rattle.std.specs.Str.{bytes_eq}
@@ -16,7 +17,8 @@ use Rattle.txn_coordinator.specs.Words.{no_producer}
 pub record CoordinatorValue : Type 0 where
   -- a record for each transactional id, in the order of creation
   pub transactions : List Transaction
-  -- the producer ids given out, from 0 up, each with the transactional id that it was given to, or none
+  -- the producer ids given out, from 0 up, each with the transactional id that it was given to, or
+  -- none
   pub given : List (Option (List ℕ))
   -- the markers that are pending, the front one first
   pub warrants : List PendingMarker
@@ -58,7 +60,8 @@ given_by (Some (Some id)) = Owned
 abbrev pub given_free : CoordinatorValue → CoordinatorValue
 given_free c = record c { given = c.given ++ None ∷ [] }
 
--- ---- what a call comes to: a code, and a record that is put with what is given out and owed for it
+-- ---- what a call comes to: a code, and a record that is put with what is given out and owed for
+-- it
 
 abbrev pub transition_code : Transition → ErrorCode
 transition_code (Stays code) = code
@@ -80,7 +83,12 @@ records_after ts (Puts code t given owed) = records_with ts t
 
 abbrev pub apply_transition : CoordinatorValue → Transition → CoordinatorValue
 apply_transition c (Stays code) = c
-apply_transition c (Puts code t given owed) = record { transactions = records_with c.transactions t; given = c.given ++ given; warrants = c.warrants ++ owed }
+apply_transition c (Puts code t given owed) =
+    record {
+      transactions = records_with c.transactions t;
+      given = c.given ++ given;
+      warrants = c.warrants ++ owed;
+    }
 
 -- where there is no error, the pair of the id as it then is; else none
 abbrev pub answered_id_and_epoch : ErrorCode → Option Transaction → ProducerIdAndEpoch
@@ -96,4 +104,6 @@ id_and_epoch_answer code found = record { code = code; pair = answered_id_and_ep
 
 -- what a call for this id is answered that answers a pair
 abbrev pub transition_answer : CoordinatorValue → List ℕ → Transition → ProducerIdAnswer
-transition_answer c id transition = id_and_epoch_answer (transition_code transition) (id_record (apply_transition c transition).transactions id)
+transition_answer c id transition =
+    id_and_epoch_answer (transition_code transition)
+    (id_record (apply_transition c transition).transactions id)

@@ -24,16 +24,21 @@ other_epoch Raising = codes.ProducerFenced
 
 -- version 5: the id gets the pair that follows its own, and keeps the one that the call came with
 abbrev pub renewal_transition : Transaction → ℤ → TransactionState → List PendingMarker → Transition
-renewal_transition t next state owed = Puts codes.None (record t { pair = next_id_and_epoch t.pair next; state = state; kept = Some t.pair }) (given_after t.pair t.id) owed
+renewal_transition t next state owed =
+    Puts codes.None
+    (record t { pair = next_id_and_epoch t.pair next; state = state; kept = Some t.pair })
+    (given_after t.pair t.id) owed
 
 abbrev pub plain_prepare_transition : Transaction → TransactionResult → Transition
-plain_prepare_transition t outcome = Puts codes.None (record t { state = prepared_phase outcome }) [] (markers t t.pair outcome)
+plain_prepare_transition t outcome =
+    Puts codes.None (record t { state = prepared_phase outcome }) [] (markers t t.pair outcome)
 
 -- an open transaction is prepared; in version 5 its markers carry the next epoch
 abbrev pub end_ongoing : EndForm → Transaction → ℤ → TransactionResult → Transition
 end_ongoing Plain t next outcome = plain_prepare_transition t outcome
 end_ongoing Fencing t next outcome = plain_prepare_transition t outcome
-end_ongoing Raising t next outcome = renewal_transition t next (prepared_phase outcome) (markers t (with_next_epoch t.pair) outcome)
+end_ongoing Raising t next outcome =
+    renewal_transition t next (prepared_phase outcome) (markers t (with_next_epoch t.pair) outcome)
 
 -- nothing is open: version 5 has nothing to commit, and an abort renews the pair
 abbrev pub end_closed : EndForm → Transaction → ℤ → TransactionResult → ErrorCode → Transition
@@ -78,11 +83,15 @@ abbrev pub end_by : Option ErrorCode → EndForm → Transaction → ℤ → Tra
 end_by (Some code) form t next outcome = Stays code
 end_by None form t next outcome = end_in t.state form t next outcome
 
-abbrev pub end_found : Option Transaction → EndForm → ℤ → ProducerIdAndEpoch → TransactionResult → Transition
+abbrev pub end_found : Option Transaction → EndForm → ℤ → ProducerIdAndEpoch → TransactionResult
+    → Transition
 end_found None form next pair outcome = Stays codes.InvalidProducerIdMapping
 end_found (Some t) form next pair outcome =
     if is_again form t pair then Stays (end_again t.state outcome)
     else end_by (producer_refusal (other_epoch form) t pair) form t next outcome
 
-abbrev pub end : CoordinatorValue → EndForm → List ℕ → ProducerIdAndEpoch → TransactionResult → Transition
-end c form id pair outcome = if is_empty id then Stays codes.InvalidRequest else end_found (id_record c.transactions id) form (fresh_producer_id c) pair outcome
+abbrev pub end : CoordinatorValue → EndForm → List ℕ → ProducerIdAndEpoch → TransactionResult
+    → Transition
+end c form id pair outcome =
+    if is_empty id then Stays codes.InvalidRequest
+    else end_found (id_record c.transactions id) form (fresh_producer_id c) pair outcome

@@ -19,4 +19,8 @@ expiry_markers moment t = if is_due moment t then fence_markers t else []
 
 -- each that is due is fenced, in the order of the ids' creation
 abbrev pub expire : CoordinatorValue → ℕ → CoordinatorValue
-expire c moment = record c { transactions = map (fenced_if_due moment) c.transactions; warrants = c.warrants ++ flat_map (expiry_markers moment) c.transactions }
+expire c moment =
+    record c {
+      transactions = map (fenced_if_due moment) c.transactions;
+      warrants = c.warrants ++ flat_map (expiry_markers moment) c.transactions;
+    }

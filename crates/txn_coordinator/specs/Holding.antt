@@ -1,4 +1,5 @@
--- Who may write in a transaction: the check of Produce, for a partition, and of TxnOffsetCommit, for a group.
+-- Who may write in a transaction: the check of Produce, for a partition, and of TxnOffsetCommit,
+-- for a group.
 use Rattle.std.specs.Prelude.{ℕ, ℤ, Bool, true, ◌&&◌, int_lt, List, Option, Some, None, if◌then◌else◌}
 use Rattle.std.specs.Ordering.{int_eq}
 use Rattle.wire_types.specs.declared.error_code.ErrorCode.{ErrorCode}
@@ -10,7 +11,8 @@ use Rattle.txn_coordinator.specs.declared.transaction.Transaction.{Transaction}
 use Rattle.txn_coordinator.specs.Words.{last_epoch, has_target, is_ongoing}
 use Rattle.txn_coordinator.specs.Coordinator.{CoordinatorValue, id_record}
 
--- TxnOffsetCommit takes the last epoch for another one; a Produce with it is told that nothing is open
+-- TxnOffsetCommit takes the last epoch for another one; a Produce with it is told that nothing is
+-- open
 abbrev pub is_usable : Target → ℤ → Bool
 is_usable (Partition p) epoch = true
 is_usable (Group g) epoch = int_lt epoch last_epoch

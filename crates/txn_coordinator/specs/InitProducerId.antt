@@ -1,4 +1,5 @@
--- InitProducerId for a transactional id (KIP-98, 'InitPidRequest'): the id gets a pair that no earlier producer has.
+-- InitProducerId for a transactional id (KIP-98, 'InitPidRequest'): the id gets a pair that no
+-- earlier producer has.
 use Rattle.std.specs.Prelude.{ℕ, ℤ, pos, negsuc, ◌&&◌, nat_le, int_le, List, [], ◌∷◌, Option, Some, None, if◌then◌else◌}
 use Rattle.wire_types.specs.declared.error_code.ErrorCode.TheVariants as codes
 use Rattle.txn_coordinator.specs.declared.transaction.TransactionState.{TransactionState}
@@ -29,7 +30,11 @@ new_transaction id producer timeout = record {
 
 -- nothing is open: the id gets the pair that follows its own
 abbrev pub begin_transition : Transaction → ℤ → ℕ → Transition
-begin_transition t next timeout = Puts codes.None (record t { pair = next_id_and_epoch t.pair next; timeout = timeout; state = Empty; kept = None }) (given_after t.pair t.id) []
+begin_transition t next timeout =
+    Puts codes.None
+    (record t
+    { pair = next_id_and_epoch t.pair next; timeout = timeout; state = Empty; kept = None })
+    (given_after t.pair t.id) []
 
 -- an open transaction is aborted first, and one that waits for its markers is waited for
 abbrev pub init_in : TransactionState → Transaction → ℤ → ℕ → Transition
@@ -42,8 +47,12 @@ init_in PrepareAbort t next timeout = Stays codes.ConcurrentTransactions
 
 abbrev pub init_for : Option ℕ → Option Transaction → List ℕ → ℤ → Transition
 init_for None found id next = Stays codes.InvalidTransactionTimeout
-init_for (Some timeout) None id next = Puts codes.None (new_transaction id next timeout) (Some id ∷ []) []
+init_for (Some timeout) None id next =
+    Puts codes.None (new_transaction id next timeout) (Some id ∷ []) []
 init_for (Some timeout) (Some t) id next = init_in t.state t next timeout
 
 abbrev pub init : CoordinatorValue → List ℕ → ℤ → ℤ → Transition
-init c id timeout greatest = if is_empty id then Stays codes.InvalidRequest else init_for (timeout_within timeout greatest) (id_record c.transactions id) id (fresh_producer_id c)
+init c id timeout greatest =
+    if is_empty id then Stays codes.InvalidRequest
+    else init_for (timeout_within timeout greatest) (id_record c.transactions id) id
+    (fresh_producer_id c)

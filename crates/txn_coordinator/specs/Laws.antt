@@ -13,10 +13,16 @@ use Rattle.txn_coordinator.specs.Warrants.{with_front_written}
 use Rattle.txn_coordinator.specs.Bounds.{IsCoordinator}
 
 pub record KeepsRanges (c : CoordinatorValue) : Type 0 where
-  pub from_init : (id : List ℕ) (timeout greatest : ℤ) → IsCoordinator (apply_transition c (init c id timeout greatest))
-  pub from_partitions : (id : List ℕ) (pair : ProducerIdAndEpoch) (moment : ℕ) (partitions : List TopicPartition) → IsCoordinator (apply_transition c (add_partitions c id pair moment partitions))
-  pub from_group : (id : List ℕ) (pair : ProducerIdAndEpoch) (moment : ℕ) (group : List ℕ) → IsCoordinator (apply_transition c (add_group c id pair moment group))
-  pub from_end : (form : EndForm) (id : List ℕ) (pair : ProducerIdAndEpoch) (outcome : TransactionResult) → IsCoordinator (apply_transition c (end c form id pair outcome))
+  pub from_init : (id : List ℕ) (timeout greatest : ℤ)
+      → IsCoordinator (apply_transition c (init c id timeout greatest))
+  pub from_partitions : (id : List ℕ) (pair : ProducerIdAndEpoch) (moment : ℕ)
+      (partitions : List TopicPartition)
+      → IsCoordinator (apply_transition c (add_partitions c id pair moment partitions))
+  pub from_group : (id : List ℕ) (pair : ProducerIdAndEpoch) (moment : ℕ) (group : List ℕ)
+      → IsCoordinator (apply_transition c (add_group c id pair moment group))
+  pub from_end : (form : EndForm) (id : List ℕ) (pair : ProducerIdAndEpoch)
+      (outcome : TransactionResult)
+      → IsCoordinator (apply_transition c (end c form id pair outcome))
   pub from_fresh : IsCoordinator (given_free c)
   pub from_expiry : (moment : ℕ) → IsCoordinator (expire c moment)
   pub from_marker : IsCoordinator (with_front_written c)

@@ -1,5 +1,6 @@
--- The words of a transaction: the producer id of a transactional id with its epoch, where the transaction stands, and
--- the partitions and groups that it takes in (KIP-98, 'Transaction Coordinator').
+-- The words of a transaction: the producer id of a transactional id with its epoch, where the
+-- transaction stands, and the partitions and groups that it takes in (KIP-98, 'Transaction
+-- Coordinator').
 use Rattle.std.specs.Prelude.{ℕ, ℤ, pos, negsuc, ◌+ℤ◌, Bool, true, false, ◌&&◌, ◌++◌, int_le, List, [], ◌∷◌, map, Option, Some, if◌then◌else◌}
 use Rattle.std.specs.List.{list_any}
 use Rattle.std.specs.Ordering.{int_eq}
@@ -41,7 +42,8 @@ is_exhausted p = int_le (pos 32766) p.epoch
 
 -- what follows a pair: its next epoch, or a fresh producer id where its epochs are used up
 abbrev pub next_id_and_epoch : ProducerIdAndEpoch → ℤ → ProducerIdAndEpoch
-next_id_and_epoch p fresh = if is_exhausted p then record { producer = fresh; epoch = pos 0 } else with_next_epoch p
+next_id_and_epoch p fresh =
+    if is_exhausted p then record { producer = fresh; epoch = pos 0 } else with_next_epoch p
 
 -- the owner of the producer id that is then given out, if one is
 abbrev pub given_after : ProducerIdAndEpoch → List ℕ → List (Option (List ℕ))

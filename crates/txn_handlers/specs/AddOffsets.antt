@@ -1,4 +1,5 @@
--- AddOffsetsToTxn: a group becomes part of a transaction (Kafka protocol guide, "AddOffsetsToTxn API (Key: 25)"; KIP-98).
+-- AddOffsetsToTxn: a group becomes part of a transaction (Kafka protocol guide, "AddOffsetsToTxn
+-- API (Key: 25)"; KIP-98).
 use Rattle.std.specs.Prelude.{ℕ, pos, List, [], ◌∷◌}
 use Rattle.acl_binding.specs.declared.question.Caller.{Caller}
 use Rattle.acl_binding.specs.declared.question.Question.{Question}
@@ -24,13 +25,20 @@ add_offsets_reply code = record { throttle = pos 0; error = code }
 
 -- what the coordinator makes of it
 abbrev pub add_offsets_transition : CoordinatorValue → ℕ → AddOffsetsToTxnRequest → Transition
-add_offsets_transition c moment r = add_group c r.transactional_id (record { producer = r.producer; epoch = r.epoch }) moment r.group
+add_offsets_transition c moment r =
+    add_group c r.transactional_id (record { producer = r.producer; epoch = r.epoch }) moment
+    r.group
 
 abbrev pub served_add_offsets : World → AddOffsetsToTxnRequest → Served
 served_add_offsets w r = record {
-  world = record w { coordinator = apply_transition w.coordinator (add_offsets_transition w.coordinator w.moment r) };
-  reply = replies.AddOffsetsToTxn (add_offsets_reply (transition_code (add_offsets_transition w.coordinator w.moment r)));
+  world = record w {
+    coordinator = apply_transition w.coordinator (add_offsets_transition w.coordinator w.moment r);
+  };
+  reply = replies.AddOffsetsToTxn
+      (add_offsets_reply (transition_code (add_offsets_transition w.coordinator w.moment r)));
 }
 
 abbrev pub add_offsets_outcome : World → Caller → AddOffsetsToTxnRequest → HandlerResult
-add_offsets_outcome w caller r = whole_outcome w (add_offsets_questions caller r.transactional_id r.group) (λ code. replies.AddOffsetsToTxn (add_offsets_reply code)) (served_add_offsets w r)
+add_offsets_outcome w caller r =
+    whole_outcome w (add_offsets_questions caller r.transactional_id r.group)
+    (λ code. replies.AddOffsetsToTxn (add_offsets_reply code)) (served_add_offsets w r)

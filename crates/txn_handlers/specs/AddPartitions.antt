@@ -1,5 +1,5 @@
--- AddPartitionsToTxn: partitions become part of a transaction, all of them or none (Kafka protocol guide,
--- "AddPartitionsToTxn API (Key: 24)"; KIP-98).
+-- AddPartitionsToTxn: partitions become part of a transaction, all of them or none (Kafka protocol
+-- guide, "AddPartitionsToTxn API (Key: 24)"; KIP-98).
 use Rattle.std.specs.Prelude.{ℕ, ℤ, pos, Bool, ◌||◌, List, [], ◌∷◌, map, Option, Some, None, is_none, if◌then◌else◌}
 use Rattle.std.specs.List.{list_any, flat_map}
 use Rattle.std.proofs.Common.{zero-le}
@@ -32,7 +32,8 @@ use Rattle.broker_world.specs.Questions.{id_question}
 
 -- to write with the transactional id, and then to write the topic
 abbrev pub add_questions : Caller → List ℕ → List ℕ → List Question
-add_questions caller id name = id_question caller id ∷ question_of caller operations.Write kinds.Topic name ∷ []
+add_questions caller id name =
+    id_question caller id ∷ question_of caller operations.Write kinds.Topic name ∷ []
 
 abbrev pub added_partition : ErrorCode → ℤ → AddedPartition
 added_partition code index = record { index = index; error = code }
@@ -63,7 +64,8 @@ abbrev pub is_missing : List TopicValue → List (Topic ℤ) → Bool
 is_missing topics ts = list_any (λ (t : Topic ℤ). is_missing_in topics t.name t.partitions) ts
 
 abbrev pub is_cut : Caller → List ℕ → List TopicValue → Rules → List (Topic ℤ) → Bool
-is_cut caller id topics rules ts = has_any (refusals (cut_rule caller id topics) rules ts) || is_missing topics ts
+is_cut caller id topics rules ts =
+    has_any (refusals (cut_rule caller id topics) rules ts) || is_missing topics ts
 
 -- ---- any other: one code for all
 
@@ -80,11 +82,14 @@ code_rule code = record {
 
 -- who is told so has asked for each of them
 abbrev pub code_rule_for : Caller → List ℕ → ErrorCode → PartRule ℤ AddedPartition (Unit {0})
-code_rule_for caller id code = record (code_rule code) { questions = λ name index. add_questions caller id name }
+code_rule_for caller id code =
+    record (code_rule code) { questions = λ name index. add_questions caller id name }
 
 -- the parts for which permits are spent: none of a request that is cut, and else all
 abbrev pub added_parts : World → Caller → AddPartitionsToTxnRequest → List (List Question)
-added_parts w caller r = if is_cut caller r.transactional_id w.topics (rules_of w) r.topics then [] else asked_in (cut_rule caller r.transactional_id w.topics) r.topics
+added_parts w caller r =
+    if is_cut caller r.transactional_id w.topics (rules_of w) r.topics then []
+    else asked_in (cut_rule caller r.transactional_id w.topics) r.topics
 
 abbrev pub partitions_in : List ℕ → List ℤ → List TopicPartition
 partitions_in name indices = map (λ index. record { topic = name; index = index }) indices
@@ -95,7 +100,9 @@ partitions_of ts = flat_map (λ (t : Topic ℤ). partitions_in t.name t.partitio
 
 -- what the coordinator makes of it
 abbrev pub add_transition : CoordinatorValue → ℕ → AddPartitionsToTxnRequest → Transition
-add_transition c moment r = add_partitions c r.transactional_id (record { producer = r.producer; epoch = r.epoch }) moment (partitions_of r.topics)
+add_transition c moment r =
+    add_partitions c r.transactional_id (record { producer = r.producer; epoch = r.epoch }) moment
+    (partitions_of r.topics)
 
 -- ---- the request
 
@@ -105,16 +112,22 @@ add_reply topics = replies.AddPartitionsToTxn (record { throttle = pos 0; topics
 abbrev pub cut_outcome : World → Caller → AddPartitionsToTxnRequest → HandlerResult
 cut_outcome w caller r = record {
   world = w;
-  reply = add_reply (answers (cut_rule caller r.transactional_id w.topics) (rules_of w) tt r.topics);
+  reply = add_reply
+      (answers (cut_rule caller r.transactional_id w.topics) (rules_of w) tt r.topics);
   refusals = refusals (cut_rule caller r.transactional_id w.topics) (rules_of w) r.topics;
 }
 
 abbrev pub added_outcome : World → AddPartitionsToTxnRequest → HandlerResult
 added_outcome w r = record {
-  world = record w { coordinator = apply_transition w.coordinator (add_transition w.coordinator w.moment r) };
-  reply = add_reply (plain_topics (code_rule (transition_code (add_transition w.coordinator w.moment r))) tt r.topics);
+  world = record w
+      { coordinator = apply_transition w.coordinator (add_transition w.coordinator w.moment r) };
+  reply = add_reply
+      (plain_topics (code_rule (transition_code (add_transition w.coordinator w.moment r))) tt
+      r.topics);
   refusals = [];
 }
 
 abbrev pub add_partitions_outcome : World → Caller → AddPartitionsToTxnRequest → HandlerResult
-add_partitions_outcome w caller r = if is_cut caller r.transactional_id w.topics (rules_of w) r.topics then cut_outcome w caller r else added_outcome w r
+add_partitions_outcome w caller r =
+    if is_cut caller r.transactional_id w.topics (rules_of w) r.topics then cut_outcome w caller r
+    else added_outcome w r

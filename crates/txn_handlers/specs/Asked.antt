@@ -15,6 +15,7 @@ pub record AsksForId (question : Question) (id : List ℕ) : Type 0 where
   pub name : question.name ≡ id
 
 -- of a TxnOffsetCommit: to write with the transactional id, and to read the group
-pub record AreAsked (policy : PolicyValue) (caller : Caller) (id group : List ℕ) (id_asked group_asked : SettledValue) : Type 0 where
+pub record AreAsked (policy : PolicyValue) (caller : Caller) (id group : List ℕ)
+    (id_asked group_asked : SettledValue) : Type 0 where
   pub written : id_asked ≡ settled_value policy (id_question caller id)
   pub read : group_asked ≡ settled_value policy (read_question caller group)

@@ -1,4 +1,5 @@
--- EndTxn: a transaction is committed or aborted (Kafka protocol guide, "EndTxn API (Key: 26)"; KIP-98; KIP-890 for version 5).
+-- EndTxn: a transaction is committed or aborted (Kafka protocol guide, "EndTxn API (Key: 26)";
+-- KIP-98; KIP-890 for version 5).
 use Rattle.std.specs.Prelude.{ℕ, pos, Bool, List, [], ◌∷◌, if◌then◌else◌}
 use Rattle.acl_binding.specs.declared.question.Caller.{Caller}
 use Rattle.acl_binding.specs.declared.question.Question.{Question}
@@ -60,7 +61,10 @@ end_reply (versions.Version1 r) a = told.Version1 (record { throttle = pos 0; er
 end_reply (versions.Version2 r) a = told.Version2 (record { throttle = pos 0; error = a.code })
 end_reply (versions.Version3 r) a = told.Version3 (record { throttle = pos 0; error = a.code })
 end_reply (versions.Version4 r) a = told.Version4 (record { throttle = pos 0; error = a.code })
-end_reply (versions.Version5 r) a = told.Version5 (record { throttle = pos 0; error = a.code; producer = a.pair.producer; epoch = a.pair.epoch })
+end_reply (versions.Version5 r) a =
+    told.Version5
+    (record
+    { throttle = pos 0; error = a.code; producer = a.pair.producer; epoch = a.pair.epoch })
 
 -- a code without a pair
 abbrev pub end_error : EndTxnRequest → ErrorCode → EndTxnReply
@@ -72,9 +76,14 @@ end_transition c r = end c (form_of r) (ending_id r) (ending_id_and_epoch r) (en
 
 abbrev pub served_end : World → EndTxnRequest → Served
 served_end w r = record {
-  world = record w { coordinator = apply_transition w.coordinator (end_transition w.coordinator r) };
-  reply = replies.EndTxn (end_reply r (transition_answer w.coordinator (ending_id r) (end_transition w.coordinator r)));
+  world = record w
+      { coordinator = apply_transition w.coordinator (end_transition w.coordinator r) };
+  reply = replies.EndTxn
+      (end_reply r
+      (transition_answer w.coordinator (ending_id r) (end_transition w.coordinator r)));
 }
 
 abbrev pub end_txn_outcome : World → Caller → EndTxnRequest → HandlerResult
-end_txn_outcome w caller r = whole_outcome w (end_questions caller r) (λ code. replies.EndTxn (end_error r code)) (served_end w r)
+end_txn_outcome w caller r =
+    whole_outcome w (end_questions caller r) (λ code. replies.EndTxn (end_error r code))
+    (served_end w r)

@@ -1,5 +1,5 @@
--- A marker step: the front marker that is pending is written (KIP-98, 'WriteTxnMarkersRequest'). No permission is asked:
--- the transaction was ended by who might end it.
+-- A marker step: the front marker that is pending is written (KIP-98, 'WriteTxnMarkersRequest'). No
+-- permission is asked: the transaction was ended by who might end it.
 use Rattle.std.specs.Prelude.{List, [], length, Option, Some, None}
 use Rattle.record_batch.specs.Batch.{BatchData}
 use Rattle.msg_admin.specs.declared.reply.Reply.TheVariants as replies

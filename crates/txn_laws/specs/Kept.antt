@@ -36,12 +36,22 @@ kept_world_with_entry w target entry = world_with_entry w target (kept_entry tar
 
 abbrev pub kept_world_after_mark : List PendingMarker → World → World
 kept_world_after_mark [] w = w
-kept_world_after_mark (m ∷ rest) w = record { coordinator = with_first_written w.coordinator (m ∷ rest); entries = with_entry w.entries m.target (kept_entry m.target (Marker m.pair m.outcome)); moment = w.moment }
+kept_world_after_mark (m ∷ rest) w =
+    record {
+      coordinator = with_first_written w.coordinator (m ∷ rest);
+      entries = with_entry w.entries m.target (kept_entry m.target (Marker m.pair m.outcome));
+      moment = w.moment;
+    }
 
 -- a move of what is kept
 abbrev pub kept_world_after_move : World → Move → World
-kept_world_after_move w (Store id pair target) = if is_no_error (holding_code w.coordinator id pair target) then kept_world_with_entry w target (Data pair) else w
-kept_world_after_move w (Send pair target) = if is_free (owner w.coordinator pair.producer) then kept_world_with_entry w target (Data pair) else w
+kept_world_after_move w (Store id pair target) =
+    if is_no_error (holding_code w.coordinator id pair target)
+    then kept_world_with_entry w target (Data pair)
+    else w
+kept_world_after_move w (Send pair target) =
+    if is_free (owner w.coordinator pair.producer) then kept_world_with_entry w target (Data pair)
+    else w
 kept_world_after_move w Mark = kept_world_after_mark w.coordinator.warrants w
 kept_world_after_move w m = world_after_move w m
 
@@ -52,8 +62,14 @@ kept_world_after_moves w (m ∷ ms) = kept_world_after_moves (kept_world_after_m
 -- to move what is kept is to keep what was moved, from the beginning on
 pub record KeptLaw : Type 0 where
   pub first : kept_world first_world ≡ first_world
-  pub next : (w : World) (moves : List Move) → kept_world (world_after_moves w moves) ≡ kept_world_after_moves (kept_world w) moves
+  pub next : (w : World) (moves : List Move)
+      → kept_world (world_after_moves w moves) ≡ kept_world_after_moves (kept_world w) moves
 
 -- a transaction's end is seen in what is kept
 abbrev pub KeptEndLaw : Type 0
-KeptEndLaw = (target : Target) (pair : ProducerIdAndEpoch) (outcome : TransactionResult) (old new : List Entry) → IsEnded pair outcome old new → IsEnded (kept_id_and_epoch target pair) outcome (kept_entries target old) (kept_entries target new)
+KeptEndLaw =
+    (target : Target) (pair : ProducerIdAndEpoch) (outcome : TransactionResult)
+    (old new : List Entry)
+    → IsEnded pair outcome old new
+    → IsEnded (kept_id_and_epoch target pair) outcome (kept_entries target old)
+    (kept_entries target new)

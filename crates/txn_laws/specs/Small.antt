@@ -1,4 +1,5 @@
--- The coordinator with what the logs and the groups hold of producers, and the moves that the broker's events are made of.
+-- The coordinator with what the logs and the groups hold of producers, and the moves that the
+-- broker's events are made of.
 use Rattle.std.specs.Prelude.{ℕ, ◌+◌, ℤ, Bool, true, false, if◌then◌else◌, List, [], ◌∷◌, ◌++◌, Option, Some, None}
 use Rattle.std.specs.Str.{bytes_eq}
 use Rattle.wire_types.specs.declared.error_code.ErrorCode.{ErrorCode}
@@ -51,7 +52,8 @@ is_same_target (Group g) (Group h) = bytes_eq g h
 
 -- one entry more at this target, and at no other
 abbrev pub with_entry : (Target → List Entry) → Target → Entry → Target → List Entry
-with_entry entries target entry t = if is_same_target target t then entries t ++ entry ∷ [] else entries t
+with_entry entries target entry t =
+    if is_same_target target t then entries t ++ entry ∷ [] else entries t
 
 abbrev pub world_with_entry : World → Target → Entry → World
 world_with_entry w target entry = record w { entries = with_entry w.entries target entry }
@@ -85,7 +87,8 @@ with_transition w transition = record w { coordinator = apply_transition w.coord
 
 abbrev pub expire_transition : Option Transaction → ℕ → Transition
 expire_transition None moment = Stays codes.None
-expire_transition (Some t) moment = if is_due moment t then fence_transition codes.None t else Stays codes.None
+expire_transition (Some t) moment =
+    if is_due moment t then fence_transition codes.None t else Stays codes.None
 
 abbrev pub is_no_error : ErrorCode → Bool
 is_no_error codes.None = true
@@ -98,18 +101,32 @@ is_free (Some (Some id)) = false
 
 abbrev pub world_after_mark : List PendingMarker → World → World
 world_after_mark [] w = w
-world_after_mark (m ∷ rest) w = record { coordinator = with_first_written w.coordinator (m ∷ rest); entries = with_entry w.entries m.target (Marker m.pair m.outcome); moment = w.moment }
+world_after_mark (m ∷ rest) w =
+    record {
+      coordinator = with_first_written w.coordinator (m ∷ rest);
+      entries = with_entry w.entries m.target (Marker m.pair m.outcome);
+      moment = w.moment;
+    }
 
 abbrev pub world_after_move : World → Move → World
-world_after_move w (Init id timeout greatest) = with_transition w (init w.coordinator id timeout greatest)
+world_after_move w (Init id timeout greatest) =
+    with_transition w (init w.coordinator id timeout greatest)
 world_after_move w Give = record w { coordinator = given_free w.coordinator }
-world_after_move w (AddPartitions id pair partitions) = with_transition w (add_partitions w.coordinator id pair w.moment partitions)
-world_after_move w (AddGroup id pair group) = with_transition w (add_group w.coordinator id pair w.moment group)
-world_after_move w (End form id pair outcome) = with_transition w (end w.coordinator form id pair outcome)
-world_after_move w (Expire id) = with_transition w (expire_transition (id_record w.coordinator.transactions id) w.moment)
+world_after_move w (AddPartitions id pair partitions) =
+    with_transition w (add_partitions w.coordinator id pair w.moment partitions)
+world_after_move w (AddGroup id pair group) =
+    with_transition w (add_group w.coordinator id pair w.moment group)
+world_after_move w (End form id pair outcome) =
+    with_transition w (end w.coordinator form id pair outcome)
+world_after_move w (Expire id) =
+    with_transition w (expire_transition (id_record w.coordinator.transactions id) w.moment)
 world_after_move w (Moment moment) = record w { moment = moment }
-world_after_move w (Store id pair target) = if is_no_error (holding_code w.coordinator id pair target) then world_with_entry w target (Data pair) else w
-world_after_move w (Send pair target) = if is_free (owner w.coordinator pair.producer) then world_with_entry w target (Data pair) else w
+world_after_move w (Store id pair target) =
+    if is_no_error (holding_code w.coordinator id pair target)
+    then world_with_entry w target (Data pair)
+    else w
+world_after_move w (Send pair target) =
+    if is_free (owner w.coordinator pair.producer) then world_with_entry w target (Data pair) else w
 world_after_move w (Plain target) = world_with_entry w target Other
 world_after_move w Mark = world_after_mark w.coordinator.warrants w
 

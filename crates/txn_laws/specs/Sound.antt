@@ -40,7 +40,8 @@ abbrev pub AreApart : List PendingMarker → Type 0
 AreApart [] = Unit {0}
 AreApart (x ∷ xs) = Each (IsApart x) xs × AreApart xs
 
--- the producer id is the id's, whose record has gone on to that epoch at least, or to another producer id
+-- the producer id is the id's, whose record has gone on to that epoch at least, or to another
+-- producer id
 pub record IsFenced (c : CoordinatorValue) (id : List ℕ) (pair : ProducerIdAndEpoch) : Type 0 where
   pub owned : owner c pair.producer ≡ Some (Some id)
   pub transaction : Transaction
@@ -50,7 +51,8 @@ pub record IsFenced (c : CoordinatorValue) (id : List ℕ) (pair : ProducerIdAnd
 -- a marker that is pending: its transaction waits for it
 pub record IsPending (c : CoordinatorValue) (x : PendingMarker) : Type 0 where
   pub fence : IsFenced c x.id x.pair
-  pub waits : (t : Transaction) → id_record c.transactions x.id ≡ Some t → t.state ≡ prepared_phase x.outcome
+  pub waits : (t : Transaction) → id_record c.transactions x.id ≡ Some t
+      → t.state ≡ prepared_phase x.outcome
 
 -- a marker that was written: its id has gone on to its epoch
 abbrev pub IsBacked : CoordinatorValue → Entry → Type 0
@@ -74,13 +76,18 @@ IsOrdered (Other ∷ rest) = IsOrdered rest
 pub record IsSound (w : World) : Type 0 where
   pub own_ids : HaveOwnIds w.coordinator.transactions
   -- a record's producer id was given to its id
-  pub owned : (id : List ℕ) (t : Transaction) → id_record w.coordinator.transactions id ≡ Some t → owner w.coordinator t.pair.producer ≡ Some (Some id)
-  pub distinct : (id : List ℕ) (t : Transaction) → id_record w.coordinator.transactions id ≡ Some t → AreDistinct (targets t)
+  pub owned : (id : List ℕ) (t : Transaction) → id_record w.coordinator.transactions id ≡ Some t
+      → owner w.coordinator t.pair.producer ≡ Some (Some id)
+  pub distinct : (id : List ℕ) (t : Transaction) → id_record w.coordinator.transactions id ≡ Some t
+      → AreDistinct (targets t)
   -- an open transaction has a partition or a group
-  pub filled : (id : List ℕ) (t : Transaction) → id_record w.coordinator.transactions id ≡ Some t → t.state ≡ Ongoing → targets t ≡ [] → ⊥
+  pub filled : (id : List ℕ) (t : Transaction) → id_record w.coordinator.transactions id ≡ Some t
+      → t.state ≡ Ongoing → targets t ≡ [] → ⊥
   pub owed : Each (IsPending w.coordinator) w.coordinator.warrants
   -- one that waits owes a marker
-  pub owing : (id : List ℕ) (t : Transaction) (outcome : TransactionResult) → id_record w.coordinator.transactions id ≡ Some t → t.state ≡ prepared_phase outcome → has_pending_marker w.coordinator.warrants id ≡ true
+  pub owing : (id : List ℕ) (t : Transaction) (outcome : TransactionResult)
+      → id_record w.coordinator.transactions id ≡ Some t → t.state ≡ prepared_phase outcome
+      → has_pending_marker w.coordinator.warrants id ≡ true
   pub apart : AreApart w.coordinator.warrants
   pub backed : (target : Target) → Each (IsBacked w.coordinator) (w.entries target)
   pub ordered : (target : Target) → IsOrdered (w.entries target)

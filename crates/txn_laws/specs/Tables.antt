@@ -1,5 +1,7 @@
--- What an EndTxn, an InitProducerId, an AddPartitionsToTxn and an AddOffsetsToTxn come to, as tables: by the state of the id's transaction, in the numbers of the protocol's
--- guide (KIP-98, 'Transaction Coordinator'; KIP-890 for version 5). 48 is INVALID_TXN_STATE, 51 CONCURRENT_TRANSACTIONS.
+-- What an EndTxn, an InitProducerId, an AddPartitionsToTxn and an AddOffsetsToTxn come to, as
+-- tables: by the state of the id's transaction, in the numbers of the protocol's guide (KIP-98,
+-- 'Transaction Coordinator'; KIP-890 for version 5). 48 is INVALID_TXN_STATE, 51
+-- CONCURRENT_TRANSACTIONS.
 use Rattle.std.specs.Prelude.{◌≡◌, ◌≢◌, ◌⊎◌, ◌<ℤ◌, ◌≤ℤ◌, ◌+ℤ◌, ℕ, ◌+◌, ◌≤◌, ℤ, pos, List, [], ◌∷◌, length, Some, None}
 use Rattle.wire_types.specs.ErrorCode.{number_of}
 use Rattle.record_batch.specs.declared.transaction_result.TransactionResult.{TransactionResult}
@@ -55,7 +57,8 @@ end_code Plain state outcome = code_until_4 state outcome
 end_code Fencing state outcome = code_until_4 state outcome
 end_code Raising state outcome = code_of_5 state outcome
 
--- the markers that are pending then: one for each partition and group of an open transaction, and none else
+-- the markers that are pending then: one for each partition and group of an open transaction, and
+-- none else
 abbrev pub end_markers : TransactionState → Transaction → ℕ
 end_markers Ongoing t = length t.partitions + length t.groups
 end_markers Empty t = 0
@@ -74,26 +77,36 @@ IsRenewing form state outcome = ⊥
 
 -- ---- the next pair
 
--- the same producer id in the next epoch, and from epoch 32,766 on the next producer id that wasn't given out, in epoch 0
+-- the same producer id in the next epoch, and from epoch 32,766 on the next producer id that wasn't
+-- given out, in epoch 0
 pub record IsNext (c : CoordinatorValue) (old new : ProducerIdAndEpoch) : Type 0 where
-  pub raised : old.epoch <ℤ pos 32766 → (new.producer ≡ old.producer) × (new.epoch ≡ old.epoch +ℤ pos 1)
+  pub raised : old.epoch <ℤ pos 32766
+      → (new.producer ≡ old.producer) × (new.epoch ≡ old.epoch +ℤ pos 1)
   pub fresh : pos 32766 ≤ℤ old.epoch → (new.producer ≡ pos (length c.given)) × (new.epoch ≡ pos 0)
 
 -- a call that comes with the id's own pair, and not once more with the one that version 5 left
-pub record ComesWithOwn (c : CoordinatorValue) (id : List ℕ) (pair : ProducerIdAndEpoch) (t : Transaction) : Type 0 where
+pub record ComesWithOwn (c : CoordinatorValue) (id : List ℕ) (pair : ProducerIdAndEpoch)
+    (t : Transaction) : Type 0 where
   pub named : id ≢ []
   pub found : id_record c.transactions id ≡ Some t
   pub own : pair ≡ t.pair
   pub low : t.pair.epoch <ℤ pos 32767
   pub new : t.kept ≢ Some pair
 
-pub record EndsByTable (c : CoordinatorValue) (form : EndForm) (id : List ℕ) (pair : ProducerIdAndEpoch) (outcome : TransactionResult) (t : Transaction) : Type 0 where
-  pub code : number_of (transition_code (end c form id pair outcome)) ≡ end_code form t.state outcome
-  pub markers : length (apply_transition c (end c form id pair outcome)).warrants ≡ length c.warrants + end_markers t.state t
-  pub renewed : IsRenewing form t.state outcome → IsNext c t.pair (transition_answer c id (end c form id pair outcome)).pair
+pub record EndsByTable (c : CoordinatorValue) (form : EndForm) (id : List ℕ)
+    (pair : ProducerIdAndEpoch) (outcome : TransactionResult) (t : Transaction) : Type 0 where
+  pub code : number_of (transition_code (end c form id pair outcome))
+      ≡ end_code form t.state outcome
+  pub markers : length (apply_transition c (end c form id pair outcome)).warrants
+      ≡ length c.warrants + end_markers t.state t
+  pub renewed : IsRenewing form t.state outcome
+      → IsNext c t.pair (transition_answer c id (end c form id pair outcome)).pair
 
 abbrev pub EndTable : Type 0
-EndTable = (c : CoordinatorValue) (form : EndForm) (id : List ℕ) (pair : ProducerIdAndEpoch) (outcome : TransactionResult) (t : Transaction) → ComesWithOwn c id pair t → EndsByTable c form id pair outcome t
+EndTable =
+    (c : CoordinatorValue) (form : EndForm) (id : List ℕ) (pair : ProducerIdAndEpoch)
+    (outcome : TransactionResult) (t : Transaction)
+    → ComesWithOwn c id pair t → EndsByTable c form id pair outcome t
 
 -- ---- InitProducerId
 
@@ -114,19 +127,25 @@ IsClosed PrepareCommit = ⊥
 IsClosed PrepareAbort = ⊥
 
 -- an id that has a record: what is closed gets the next pair, anything else is waited for
-pub record InitsByTable (c : CoordinatorValue) (id : List ℕ) (timeout greatest : ℤ) (t : Transaction) : Type 0 where
+pub record InitsByTable (c : CoordinatorValue) (id : List ℕ) (timeout greatest : ℤ)
+    (t : Transaction) : Type 0 where
   pub code : number_of (transition_code (init c id timeout greatest)) ≡ init_code t.state
-  pub next : IsClosed t.state → IsNext c t.pair (transition_answer c id (init c id timeout greatest)).pair
+  pub next : IsClosed t.state
+      → IsNext c t.pair (transition_answer c id (init c id timeout greatest)).pair
 
 -- a new id gets the next producer id, in epoch 0
 pub record InitsNew (c : CoordinatorValue) (id : List ℕ) (timeout greatest : ℤ) : Type 0 where
   pub code : number_of (transition_code (init c id timeout greatest)) ≡ pos 0
-  pub producer : (transition_answer c id (init c id timeout greatest)).pair.producer ≡ pos (length c.given)
+  pub producer : (transition_answer c id (init c id timeout greatest)).pair.producer
+      ≡ pos (length c.given)
   pub epoch : (transition_answer c id (init c id timeout greatest)).pair.epoch ≡ pos 0
 
 pub record InitTable : Type 0 where
-  pub known : (c : CoordinatorValue) (id : List ℕ) (n : ℕ) (greatest : ℤ) (t : Transaction) → id ≢ [] → 1 ≤ n → pos n ≤ℤ greatest → id_record c.transactions id ≡ Some t → InitsByTable c id (pos n) greatest t
-  pub new : (c : CoordinatorValue) (id : List ℕ) (n : ℕ) (greatest : ℤ) → id ≢ [] → 1 ≤ n → pos n ≤ℤ greatest → id_record c.transactions id ≡ None → InitsNew c id (pos n) greatest
+  pub known : (c : CoordinatorValue) (id : List ℕ) (n : ℕ) (greatest : ℤ) (t : Transaction)
+      → id ≢ [] → 1 ≤ n → pos n ≤ℤ greatest → id_record c.transactions id ≡ Some t
+      → InitsByTable c id (pos n) greatest t
+  pub new : (c : CoordinatorValue) (id : List ℕ) (n : ℕ) (greatest : ℤ) → id ≢ [] → 1 ≤ n
+      → pos n ≤ℤ greatest → id_record c.transactions id ≡ None → InitsNew c id (pos n) greatest
 
 -- ---- AddPartitionsToTxn
 
@@ -145,7 +164,8 @@ pub record AddsEach {X : Type 0} (old named new : List X) : Type 0 where
   pub alone : (x : X) → IsAmong new x → IsAmong old x ⊎ IsAmong named x
 
 -- the id's transaction t is open then, since this moment where it was closed, and has taken them in
-pub record TakesIn (c : CoordinatorValue) (id : List ℕ) (moment : ℕ) (ps : List TopicPartition) (t : Transaction) (transition : Transition) : Type 0 where
+pub record TakesIn (c : CoordinatorValue) (id : List ℕ) (moment : ℕ) (ps : List TopicPartition)
+    (t : Transaction) (transition : Transition) : Type 0 where
   pub transaction : Transaction
   pub found : id_record (apply_transition c transition).transactions id ≡ Some transaction
   pub ongoing : transaction.state ≡ Ongoing
@@ -155,19 +175,25 @@ pub record TakesIn (c : CoordinatorValue) (id : List ℕ) (moment : ℕ) (ps : L
   pub partitions : AddsEach t.partitions ps transaction.partitions
   pub groups : transaction.groups ≡ t.groups
 
-pub record AddsByTable (c : CoordinatorValue) (id : List ℕ) (pair : ProducerIdAndEpoch) (moment : ℕ) (ps : List TopicPartition) (t : Transaction) : Type 0 where
+pub record AddsByTable (c : CoordinatorValue) (id : List ℕ) (pair : ProducerIdAndEpoch) (moment : ℕ)
+    (ps : List TopicPartition) (t : Transaction) : Type 0 where
   pub code : number_of (transition_code (add_partitions c id pair moment ps)) ≡ add_code t.state
-  pub taken : add_code t.state ≡ pos 0 → TakesIn c id moment ps t (add_partitions c id pair moment ps)
+  pub taken : add_code t.state ≡ pos 0
+      → TakesIn c id moment ps t (add_partitions c id pair moment ps)
 
 -- where some partition is named
 abbrev pub AddTable : Type 0
-AddTable = (c : CoordinatorValue) (id : List ℕ) (pair : ProducerIdAndEpoch) (moment : ℕ) (p : TopicPartition) (ps : List TopicPartition) (t : Transaction)
-    → id ≢ [] → id_record c.transactions id ≡ Some t → pair ≡ t.pair → t.pair.epoch <ℤ pos 32767 → AddsByTable c id pair moment (p ∷ ps) t
+AddTable =
+    (c : CoordinatorValue) (id : List ℕ) (pair : ProducerIdAndEpoch) (moment : ℕ)
+    (p : TopicPartition) (ps : List TopicPartition) (t : Transaction)
+    → id ≢ [] → id_record c.transactions id ≡ Some t → pair ≡ t.pair → t.pair.epoch <ℤ pos 32767
+    → AddsByTable c id pair moment (p ∷ ps) t
 
 -- ---- AddOffsetsToTxn
 
 -- the same of a group
-pub record TakesGroupIn (c : CoordinatorValue) (id : List ℕ) (moment : ℕ) (group : List ℕ) (t : Transaction) (transition : Transition) : Type 0 where
+pub record TakesGroupIn (c : CoordinatorValue) (id : List ℕ) (moment : ℕ) (group : List ℕ)
+    (t : Transaction) (transition : Transition) : Type 0 where
   pub transaction : Transaction
   pub found : id_record (apply_transition c transition).transactions id ≡ Some transaction
   pub ongoing : transaction.state ≡ Ongoing
@@ -177,10 +203,15 @@ pub record TakesGroupIn (c : CoordinatorValue) (id : List ℕ) (moment : ℕ) (g
   pub groups : AddsEach t.groups (group ∷ []) transaction.groups
   pub partitions : transaction.partitions ≡ t.partitions
 
-pub record AddsGroupByTable (c : CoordinatorValue) (id : List ℕ) (pair : ProducerIdAndEpoch) (moment : ℕ) (group : List ℕ) (t : Transaction) : Type 0 where
+pub record AddsGroupByTable (c : CoordinatorValue) (id : List ℕ) (pair : ProducerIdAndEpoch)
+    (moment : ℕ) (group : List ℕ) (t : Transaction) : Type 0 where
   pub code : number_of (transition_code (add_group c id pair moment group)) ≡ add_code t.state
-  pub taken : add_code t.state ≡ pos 0 → TakesGroupIn c id moment group t (add_group c id pair moment group)
+  pub taken : add_code t.state ≡ pos 0
+      → TakesGroupIn c id moment group t (add_group c id pair moment group)
 
 abbrev pub GroupTable : Type 0
-GroupTable = (c : CoordinatorValue) (id : List ℕ) (pair : ProducerIdAndEpoch) (moment : ℕ) (group : List ℕ) (t : Transaction)
-    → id ≢ [] → id_record c.transactions id ≡ Some t → pair ≡ t.pair → t.pair.epoch <ℤ pos 32767 → AddsGroupByTable c id pair moment group t
+GroupTable =
+    (c : CoordinatorValue) (id : List ℕ) (pair : ProducerIdAndEpoch) (moment : ℕ) (group : List ℕ)
+    (t : Transaction)
+    → id ≢ [] → id_record c.transactions id ≡ Some t → pair ≡ t.pair → t.pair.epoch <ℤ pos 32767
+    → AddsGroupByTable c id pair moment group t

@@ -1,6 +1,7 @@
--- Whom the coordinator turns away, as a table: 42 is INVALID_REQUEST, 47 INVALID_PRODUCER_EPOCH, 48 INVALID_TXN_STATE, 49
--- INVALID_PRODUCER_ID_MAPPING, 50 INVALID_TRANSACTION_TIMEOUT, 51 CONCURRENT_TRANSACTIONS and 90 PRODUCER_FENCED (Kafka protocol
--- guide, "Error Codes"; KIP-98, KIP-588, KIP-890).
+-- Whom the coordinator turns away, as a table: 42 is INVALID_REQUEST, 47 INVALID_PRODUCER_EPOCH, 48
+-- INVALID_TXN_STATE, 49 INVALID_PRODUCER_ID_MAPPING, 50 INVALID_TRANSACTION_TIMEOUT, 51
+-- CONCURRENT_TRANSACTIONS and 90 PRODUCER_FENCED (Kafka protocol guide, "Error Codes"; KIP-98,
+-- KIP-588, KIP-890).
 use Rattle.std.specs.Prelude.{◌≡◌, ◌≢◌, ◌⊎◌, ◌<ℤ◌, ◌≤ℤ◌, ℕ, ℤ, pos, List, [], ◌∷◌, Some, None}
 use Rattle.wire_types.specs.ErrorCode.{number_of}
 use Rattle.record_batch.specs.declared.transaction_result.TransactionResult.{TransactionResult}
@@ -51,28 +52,61 @@ again_number CompleteAbort Abort = pos 0
 
 -- the empty id
 pub record EmptyId : Type 0 where
-  pub init : (c : CoordinatorValue) (timeout greatest : ℤ) → IsTold (pos 42) c (init c [] timeout greatest)
-  pub add : (c : CoordinatorValue) (pair : ProducerIdAndEpoch) (moment : ℕ) (p : TopicPartition) (ps : List TopicPartition) → IsTold (pos 42) c (add_partitions c [] pair moment (p ∷ ps))
-  pub group : (c : CoordinatorValue) (pair : ProducerIdAndEpoch) (moment : ℕ) (g : List ℕ) → IsTold (pos 42) c (add_group c [] pair moment g)
-  pub end : (c : CoordinatorValue) (form : EndForm) (pair : ProducerIdAndEpoch) (outcome : TransactionResult) → IsTold (pos 42) c (end c form [] pair outcome)
+  pub init : (c : CoordinatorValue) (timeout greatest : ℤ)
+      → IsTold (pos 42) c (init c [] timeout greatest)
+  pub add : (c : CoordinatorValue) (pair : ProducerIdAndEpoch) (moment : ℕ) (p : TopicPartition)
+      (ps : List TopicPartition)
+      → IsTold (pos 42) c (add_partitions c [] pair moment (p ∷ ps))
+  pub group : (c : CoordinatorValue) (pair : ProducerIdAndEpoch) (moment : ℕ) (g : List ℕ)
+      → IsTold (pos 42) c (add_group c [] pair moment g)
+  pub end : (c : CoordinatorValue) (form : EndForm) (pair : ProducerIdAndEpoch)
+      (outcome : TransactionResult)
+      → IsTold (pos 42) c (end c form [] pair outcome)
 
 -- an id that has no record
 pub record UnknownId : Type 0 where
-  pub add : (c : CoordinatorValue) (id : List ℕ) (pair : ProducerIdAndEpoch) (moment : ℕ) (p : TopicPartition) (ps : List TopicPartition) → id ≢ [] → id_record c.transactions id ≡ None → IsTold (pos 49) c (add_partitions c id pair moment (p ∷ ps))
-  pub group : (c : CoordinatorValue) (id : List ℕ) (pair : ProducerIdAndEpoch) (moment : ℕ) (g : List ℕ) → id ≢ [] → id_record c.transactions id ≡ None → IsTold (pos 49) c (add_group c id pair moment g)
-  pub end : (c : CoordinatorValue) (form : EndForm) (id : List ℕ) (pair : ProducerIdAndEpoch) (outcome : TransactionResult) → id ≢ [] → id_record c.transactions id ≡ None → IsTold (pos 49) c (end c form id pair outcome)
+  pub add : (c : CoordinatorValue) (id : List ℕ) (pair : ProducerIdAndEpoch) (moment : ℕ)
+      (p : TopicPartition) (ps : List TopicPartition)
+      → id ≢ [] → id_record c.transactions id ≡ None
+      → IsTold (pos 49) c (add_partitions c id pair moment (p ∷ ps))
+  pub group : (c : CoordinatorValue) (id : List ℕ) (pair : ProducerIdAndEpoch) (moment : ℕ)
+      (g : List ℕ)
+      → id ≢ [] → id_record c.transactions id ≡ None
+      → IsTold (pos 49) c (add_group c id pair moment g)
+  pub end : (c : CoordinatorValue) (form : EndForm) (id : List ℕ) (pair : ProducerIdAndEpoch)
+      (outcome : TransactionResult)
+      → id ≢ [] → id_record c.transactions id ≡ None
+      → IsTold (pos 49) c (end c form id pair outcome)
 
 -- another producer id than the id's
 pub record OtherProducer : Type 0 where
-  pub add : (c : CoordinatorValue) (id : List ℕ) (pair : ProducerIdAndEpoch) (moment : ℕ) (p : TopicPartition) (ps : List TopicPartition) (t : Transaction) → id ≢ [] → id_record c.transactions id ≡ Some t → pair.producer ≢ t.pair.producer → IsTold (pos 49) c (add_partitions c id pair moment (p ∷ ps))
-  pub group : (c : CoordinatorValue) (id : List ℕ) (pair : ProducerIdAndEpoch) (moment : ℕ) (g : List ℕ) (t : Transaction) → id ≢ [] → id_record c.transactions id ≡ Some t → pair.producer ≢ t.pair.producer → IsTold (pos 49) c (add_group c id pair moment g)
-  pub end : (c : CoordinatorValue) (form : EndForm) (id : List ℕ) (pair : ProducerIdAndEpoch) (outcome : TransactionResult) (t : Transaction) → id ≢ [] → id_record c.transactions id ≡ Some t → t.kept ≢ Some pair → pair.producer ≢ t.pair.producer → IsTold (pos 49) c (end c form id pair outcome)
+  pub add : (c : CoordinatorValue) (id : List ℕ) (pair : ProducerIdAndEpoch) (moment : ℕ)
+      (p : TopicPartition) (ps : List TopicPartition) (t : Transaction)
+      → id ≢ [] → id_record c.transactions id ≡ Some t → pair.producer ≢ t.pair.producer
+      → IsTold (pos 49) c (add_partitions c id pair moment (p ∷ ps))
+  pub group : (c : CoordinatorValue) (id : List ℕ) (pair : ProducerIdAndEpoch) (moment : ℕ)
+      (g : List ℕ) (t : Transaction)
+      → id ≢ [] → id_record c.transactions id ≡ Some t → pair.producer ≢ t.pair.producer
+      → IsTold (pos 49) c (add_group c id pair moment g)
+  pub end : (c : CoordinatorValue) (form : EndForm) (id : List ℕ) (pair : ProducerIdAndEpoch)
+      (outcome : TransactionResult) (t : Transaction)
+      → id ≢ [] → id_record c.transactions id ≡ Some t → t.kept ≢ Some pair
+      → pair.producer ≢ t.pair.producer → IsTold (pos 49) c (end c form id pair outcome)
 
 -- another epoch
 pub record OtherEpoch : Type 0 where
-  pub add : (c : CoordinatorValue) (id : List ℕ) (pair : ProducerIdAndEpoch) (moment : ℕ) (p : TopicPartition) (ps : List TopicPartition) (t : Transaction) → id ≢ [] → id_record c.transactions id ≡ Some t → IsOfOtherEpoch t pair → IsTold (pos 47) c (add_partitions c id pair moment (p ∷ ps))
-  pub group : (c : CoordinatorValue) (id : List ℕ) (pair : ProducerIdAndEpoch) (moment : ℕ) (g : List ℕ) (t : Transaction) → id ≢ [] → id_record c.transactions id ≡ Some t → IsOfOtherEpoch t pair → IsTold (pos 47) c (add_group c id pair moment g)
-  pub end : (c : CoordinatorValue) (form : EndForm) (id : List ℕ) (pair : ProducerIdAndEpoch) (outcome : TransactionResult) (t : Transaction) → id ≢ [] → id_record c.transactions id ≡ Some t → t.kept ≢ Some pair → IsOfOtherEpoch t pair → IsTold (epoch_number form) c (end c form id pair outcome)
+  pub add : (c : CoordinatorValue) (id : List ℕ) (pair : ProducerIdAndEpoch) (moment : ℕ)
+      (p : TopicPartition) (ps : List TopicPartition) (t : Transaction)
+      → id ≢ [] → id_record c.transactions id ≡ Some t → IsOfOtherEpoch t pair
+      → IsTold (pos 47) c (add_partitions c id pair moment (p ∷ ps))
+  pub group : (c : CoordinatorValue) (id : List ℕ) (pair : ProducerIdAndEpoch) (moment : ℕ)
+      (g : List ℕ) (t : Transaction)
+      → id ≢ [] → id_record c.transactions id ≡ Some t → IsOfOtherEpoch t pair
+      → IsTold (pos 47) c (add_group c id pair moment g)
+  pub end : (c : CoordinatorValue) (form : EndForm) (id : List ℕ) (pair : ProducerIdAndEpoch)
+      (outcome : TransactionResult) (t : Transaction)
+      → id ≢ [] → id_record c.transactions id ≡ Some t → t.kept ≢ Some pair → IsOfOtherEpoch t pair
+      → IsTold (epoch_number form) c (end c form id pair outcome)
 
 pub record TurnsAwayByTable : Type 0 where
   pub empty : EmptyId
@@ -80,8 +114,13 @@ pub record TurnsAwayByTable : Type 0 where
   pub producer : OtherProducer
   pub epoch : OtherEpoch
   -- a timeout that isn't from 1 to the greatest
-  pub timeout : (c : CoordinatorValue) (id : List ℕ) (timeout greatest : ℤ) → id ≢ [] → (timeout ≤ℤ pos 0) ⊎ (greatest <ℤ timeout) → IsTold (pos 50) c (init c id timeout greatest)
+  pub timeout : (c : CoordinatorValue) (id : List ℕ) (timeout greatest : ℤ) → id ≢ []
+      → (timeout ≤ℤ pos 0) ⊎ (greatest <ℤ timeout) → IsTold (pos 50) c (init c id timeout greatest)
   -- no partition at all
-  pub nothing : (c : CoordinatorValue) (id : List ℕ) (pair : ProducerIdAndEpoch) (moment : ℕ) → IsTold (pos 0) c (add_partitions c id pair moment [])
+  pub nothing : (c : CoordinatorValue) (id : List ℕ) (pair : ProducerIdAndEpoch) (moment : ℕ)
+      → IsTold (pos 0) c (add_partitions c id pair moment [])
   -- once more
-  pub again : (c : CoordinatorValue) (id : List ℕ) (pair : ProducerIdAndEpoch) (outcome : TransactionResult) (t : Transaction) → id ≢ [] → id_record c.transactions id ≡ Some t → t.kept ≡ Some pair → IsTold (again_number t.state outcome) c (end c Raising id pair outcome)
+  pub again : (c : CoordinatorValue) (id : List ℕ) (pair : ProducerIdAndEpoch)
+      (outcome : TransactionResult) (t : Transaction)
+      → id ≢ [] → id_record c.transactions id ≡ Some t → t.kept ≡ Some pair
+      → IsTold (again_number t.state outcome) c (end c Raising id pair outcome)

@@ -5,7 +5,8 @@ use Rattle.authorizer.specs.declared.answer.Refusal.{Refusal}
 use Rattle.authorizer.specs.Asking.{Rules, part_refusal}
 use Rattle.wire_types.specs.declared.error_code.ErrorCode.{ErrorCode}
 
--- An api over parts `P` of a topic and a world `W`, which is only what the api may change: so no part edits the book.
+-- An api over parts `P` of a topic and a world `W`, which is only what the api may change: so no
+-- part edits the book.
 pub record PartRule (P A W : Type 0) : Type 0 where
   -- what a part asks, in order
   pub questions : List ℕ → P → List Question
@@ -14,7 +15,8 @@ pub record PartRule (P A W : Type 0) : Type 0 where
   pub after : W → List ℕ → P → W
   -- what it is answered with the code of a refusal
   pub refused : ErrorCode → List ℕ → P → A
-  -- how much it may add to the world, how much more the world can take, and that the one is taken off the other at most
+  -- how much it may add to the world, how much more the world can take, and that the one is taken
+  -- off the other at most
   pub weight : P → ℕ
   pub budget : W → ℕ
   pub takes : (w : W) (name : List ℕ) (p : P) → budget w ≤ weight p + budget (after w name p)

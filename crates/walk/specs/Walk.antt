@@ -1,5 +1,5 @@
--- The walk over the partitions of topics: the plain answers to the allowed parts of a request, with those of the
--- refused parts put back at their places.
+-- The walk over the partitions of topics: the plain answers to the allowed parts of a request, with
+-- those of the refused parts put back at their places.
 use Rattle.std.specs.Prelude.{ℕ, ◌+◌, List, [], ◌∷◌, ◌++◌, map, filter, Option}
 use Rattle.std.specs.Option.{option_map}
 use Rattle.std.specs.List.{filter_map, flat_map}
@@ -16,11 +16,15 @@ use Rattle.walk.specs.Rule.{PartRule, refusal_of, is_allowed}
 abbrev pub allowed_parts : {P A W : Type 0} → PartRule P A W → Rules → List ℕ → List P → List P
 allowed_parts api rules name ps = filter (is_allowed api rules name) ps
 
-abbrev pub allowed_topics : {P A W : Type 0} → PartRule P A W → Rules → List (Topic P) → List (Topic P)
+abbrev pub allowed_topics : {P A W : Type 0} → PartRule P A W → Rules → List (Topic P)
+    → List (Topic P)
 allowed_topics api rules [] = []
-allowed_topics api rules (t ∷ ts) = record { name = t.name; partitions = allowed_parts api rules t.name t.partitions } ∷ allowed_topics api rules ts
+allowed_topics api rules (t ∷ ts) =
+    record { name = t.name; partitions = allowed_parts api rules t.name t.partitions }
+    ∷ allowed_topics api rules ts
 
--- ---- the plain broker, which knows no permission: one part after the other, one topic after the other
+-- ---- the plain broker, which knows no permission: one part after the other, one topic after the
+-- other
 
 abbrev pub plain_parts_world : {P A W : Type 0} → PartRule P A W → W → List ℕ → List P → W
 plain_parts_world api w name [] = w
@@ -36,21 +40,28 @@ plain_world api w (t ∷ ts) = plain_world api (plain_parts_world api w t.name t
 
 abbrev pub plain_topics : {P A W : Type 0} → PartRule P A W → W → List (Topic P) → List (Topic A)
 plain_topics api w [] = []
-plain_topics api w (t ∷ ts) = record { name = t.name; partitions = plain_parts api w t.name t.partitions } ∷ plain_topics api (plain_parts_world api w t.name t.partitions) ts
+plain_topics api w (t ∷ ts) =
+    record { name = t.name; partitions = plain_parts api w t.name t.partitions }
+    ∷ plain_topics api (plain_parts_world api w t.name t.partitions) ts
 
 -- ---- refused parts, put back at their places
 
 -- what stands in the answer for a part, if it is refused
 abbrev pub refused_part : {P A W : Type 0} → PartRule P A W → Rules → List ℕ → P → Option A
-refused_part api rules name p = option_map (λ r. api.refused (refusal_code r) name p) (refusal_of api rules name p)
+refused_part api rules name p =
+    option_map (λ r. api.refused (refusal_code r) name p) (refusal_of api rules name p)
 
-abbrev pub weave_parts : {P A W : Type 0} → PartRule P A W → Rules → List ℕ → List P → List A → List A
+abbrev pub weave_parts : {P A W : Type 0} → PartRule P A W → Rules → List ℕ → List P → List A
+    → List A
 weave_parts api rules name ps answers = weave (map (refused_part api rules name) ps) answers
 
-abbrev pub weave_topics : {P A W : Type 0} → PartRule P A W → Rules → List (Topic P) → List (Topic A) → List (Topic A)
+abbrev pub weave_topics : {P A W : Type 0} → PartRule P A W → Rules → List (Topic P)
+    → List (Topic A) → List (Topic A)
 weave_topics api rules [] answers = answers
 weave_topics api rules (t ∷ ts) [] = []
-weave_topics api rules (t ∷ ts) (a ∷ answers) = record { name = a.name; partitions = weave_parts api rules t.name t.partitions a.partitions } ∷ weave_topics api rules ts answers
+weave_topics api rules (t ∷ ts) (a ∷ answers) =
+    record { name = a.name; partitions = weave_parts api rules t.name t.partitions a.partitions }
+    ∷ weave_topics api rules ts answers
 
 -- ---- what a request comes to
 
@@ -60,9 +71,11 @@ world_after api rules w ts = plain_world api w (allowed_topics api rules ts)
 
 -- the plain answers to the allowed parts, with those of the refused parts at their places
 abbrev pub answers : {P A W : Type 0} → PartRule P A W → Rules → W → List (Topic P) → List (Topic A)
-answers api rules w ts = weave_topics api rules ts (plain_topics api w (allowed_topics api rules ts))
+answers api rules w ts =
+    weave_topics api rules ts (plain_topics api w (allowed_topics api rules ts))
 
-abbrev pub parts_refused : {P A W : Type 0} → PartRule P A W → Rules → List ℕ → List P → List Refusal
+abbrev pub parts_refused : {P A W : Type 0} → PartRule P A W → Rules → List ℕ → List P
+    → List Refusal
 parts_refused api rules name ps = filter_map (refusal_of api rules name) ps
 
 -- one refusal for each refused part, in order

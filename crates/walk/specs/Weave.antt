@@ -1,4 +1,5 @@
--- The answers to the allowed parts of a request, with those of the refused parts put back at their places.
+-- The answers to the allowed parts of a request, with those of the refused parts put back at their
+-- places.
 use Rattle.std.specs.Prelude.{List, [], ◌∷◌, Option, Some, None}
 
 -- `refused` has something for each part: the answer of a refused one, nothing for an allowed one

@@ -9,7 +9,8 @@ none_after true budget = refl
 none_after false budget = refl
 
 -- one part and then another
-pub left_after_both : (a b : Bool) (m n budget : ℕ) → then_left (left_after a m budget) (left_after b n) ≡ left_after (a && b) (m + n) budget
+pub left_after_both : (a b : Bool) (m n budget : ℕ)
+    → then_left (left_after a m budget) (left_after b n) ≡ left_after (a && b) (m + n) budget
 unfolding left_after
 left_after_both false b m n budget = refl
 left_after_both true false m n budget = none_after (leb m budget) (budget - m)
@@ -34,17 +35,27 @@ left_after_both true true m n budget =
           ]
     ]
 
-pub left_after_parts : (a b : Bool) (x y : List ℕ) (budget : ℕ) → then_left (left_after a (length x) budget) (left_after b (length y)) ≡ left_after (a && b) (length (x ++ y)) budget
-left_after_parts a b x y budget = left_after_both a b (length x) (length y) budget ∙ ap (λ (n : ℕ). left_after (a && b) n budget) (sym (length-append x y))
+pub left_after_parts : (a b : Bool) (x y : List ℕ) (budget : ℕ)
+    → then_left (left_after a (length x) budget) (left_after b (length y))
+    ≡ left_after (a && b) (length (x ++ y)) budget
+left_after_parts a b x y budget =
+    left_after_both a b (length x) (length y) budget
+    ∙ ap (λ (n : ℕ). left_after (a && b) n budget) (sym (length-append x y))
 
-then_same : (r : Option ℕ) (f g : ℕ → Option ℕ) → ((budget : ℕ) → f budget ≡ g budget) → then_left r f ≡ then_left r g
+then_same : (r : Option ℕ) (f g : ℕ → Option ℕ) → ((budget : ℕ) → f budget ≡ g budget)
+    → then_left r f ≡ then_left r g
 then_same None f g same = refl
 then_same (Some budget) f g same = same budget
 
 -- the same, where each part leaves what is told
-pub left_of_parts : (a b : Bool) (x y : List ℕ) (budget : ℕ) (r : Option ℕ) (f : ℕ → Option ℕ) → r ≡ left_after a (length x) budget → ((budget : ℕ) → f budget ≡ left_after b (length y) budget)
+pub left_of_parts : (a b : Bool) (x y : List ℕ) (budget : ℕ) (r : Option ℕ) (f : ℕ → Option ℕ)
+    → r ≡ left_after a (length x) budget
+    → ((budget : ℕ) → f budget ≡ left_after b (length y) budget)
     → then_left r f ≡ left_after (a && b) (length (x ++ y)) budget
-left_of_parts a b x y budget r f first second = ap (λ (o : Option ℕ). then_left o f) first ∙ then_same (left_after a (length x) budget) f (left_after b (length y)) second ∙ left_after_parts a b x y budget
+left_of_parts a b x y budget r f first second =
+    ap (λ (o : Option ℕ). then_left o f) first
+    ∙ then_same (left_after a (length x) budget) f (left_after b (length y)) second
+    ∙ left_after_parts a b x y budget
 
 pub left_after_nothing : (budget : ℕ) → Some budget ≡ left_after true 0 budget
 unfolding left_after

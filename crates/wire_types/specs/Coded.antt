@@ -1,9 +1,12 @@
--- The grammar of values that are told by numbers out of a table: a number that is not in the table is out of range.
+-- The grammar of values that are told by numbers out of a table: a number that is not in the table
+-- is out of range.
 use Rattle.std.specs.Prelude.{◌≡◌, Option, Some}
 use Rattle.wire_types.specs.Grammar.{Grammar}
 use Rattle.wire_types.specs.CodedLaws.{coded_at, coded_value-sound, coded_value-complete}
 
-abbrev pub coded_value : {A S : Type 0} (code : S → A) (named : A → Option S) → ((s : S) → named (code s) ≡ Some s) → ((a : A) (s : S) → named a ≡ Some s → code s ≡ a) → Grammar A → Grammar S
+abbrev pub coded_value : {A S : Type 0} (code : S → A) (named : A → Option S)
+    → ((s : S) → named (code s) ≡ Some s) → ((a : A) (s : S) → named a ≡ Some s → code s ≡ a)
+    → Grammar A → Grammar S
 coded_value code named told tells g = record {
   Spells = λ text s. g.Spells text (code s);
   reading = coded_at named g.reading;

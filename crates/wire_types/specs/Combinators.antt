@@ -26,7 +26,9 @@ f ⨟ g = record {
   left = λ x budget. then_left (f.left x.0 budget) (g.left x.1);
   InType = λ x. f.InType x.0 × g.InType x.1;
   puts = both-puts f g;
-  lefts = λ x budget. left_of_parts (f.fits x.0) (g.fits x.1) (f.written x.0) (g.written x.1) budget (f.left x.0 budget) (g.left x.1) (f.lefts x.0 budget) (g.lefts x.1);
+  lefts =
+      λ x budget. left_of_parts (f.fits x.0) (g.fits x.1) (f.written x.0) (g.written x.1) budget
+      (f.left x.0 budget) (g.left x.1) (f.lefts x.0 budget) (g.lefts x.1);
   sound = both-sound f g;
   complete = both-complete f g;
   canonical = both-canonical f g;
@@ -35,7 +37,8 @@ f ⨟ g = record {
 }
 
 -- a struct, whose parts are spelled one after the other
-abbrev pub struct : {A S : Type 0} (make : A → S) (parts : S → A) → ((x : A) → parts (make x) ≡ x) → ((s : S) → make (parts s) ≡ s) → Grammar A → Grammar S
+abbrev pub struct : {A S : Type 0} (make : A → S) (parts : S → A) → ((x : A) → parts (make x) ≡ x)
+    → ((s : S) → make (parts s) ≡ s) → Grammar A → Grammar S
 struct make parts parts_make make_parts g = record {
   Spells = λ text s. g.Spells text (parts s);
   reading = via_at make g.reading;
@@ -54,7 +57,9 @@ struct make parts parts_make make_parts g = record {
 }
 
 -- a variant of an enum: no bytes spell another variant
-abbrev pub variant : {A S : Type 0} (make : A → S) (part : S → Option A) → ((x : A) → part (make x) ≡ Some x) → ((s : S) (x : A) → part s ≡ Some x → make x ≡ s) → Grammar A → Grammar S
+abbrev pub variant : {A S : Type 0} (make : A → S) (part : S → Option A)
+    → ((x : A) → part (make x) ≡ Some x) → ((s : S) (x : A) → part s ≡ Some x → make x ≡ s)
+    → Grammar A → Grammar S
 variant make part part_make make_part g = record {
   Spells = λ text s. IsSomeAnd (part s) (g.Spells text);
   reading = via_at make g.reading;
@@ -183,7 +188,8 @@ after_null_count c k = record {
 -- ---- what is skipped
 
 -- whatever this grammar spells, as one value; the shortest, of so many bytes, is written
-abbrev pub skipped_value : {A : Type 0} (g : Grammar A) (least : A) (size : ℕ) → IsLeast g least size → Grammar (Unit {0})
+abbrev pub skipped_value : {A : Type 0} (g : Grammar A) (least : A) (size : ℕ)
+    → IsLeast g least size → Grammar (Unit {0})
 skipped_value {A} g least size is = record {
   Spells = λ text s. (x : A) × g.Spells text x;
   reading = via_at (λ (x : A). tt) g.reading;
@@ -222,7 +228,8 @@ body_of g = record {
 }
 
 -- one value, spelled by no bytes
-abbrev pub empty_body : {S : Type 0} (value : S) (is : S → Bool) → is value ≡ true → ((s : S) → is s ≡ true → s ≡ value) → Body S
+abbrev pub empty_body : {S : Type 0} (value : S) (is : S → Bool) → is value ≡ true
+    → ((s : S) → is s ≡ true → s ≡ value) → Body S
 empty_body value is holds only = record {
   Spells = λ text s. (text ≡ []) × (s ≡ value);
   reading = λ text. Ok (value, text);

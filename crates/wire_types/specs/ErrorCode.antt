@@ -1,4 +1,5 @@
--- The error codes that are answered, under the names and numbers of the Kafka protocol guide ("Error Codes").
+-- The error codes that are answered, under the names and numbers of the Kafka protocol guide
+-- ("Error Codes").
 use Rattle.std.specs.Prelude.{◌≡◌, ℤ, pos, List, [], ◌∷◌, Option, Some, refl}
 use Rattle.std.specs.List.{find}
 use Rattle.std.specs.Ordering.{int_eq}
@@ -48,15 +49,24 @@ number_of codes.ProducerFenced = pos 90
 
 -- every code
 unfoldable pub all_codes : List ErrorCode
-all_codes = codes.None ∷ codes.OffsetOutOfRange ∷ codes.CorruptMessage ∷ codes.UnknownTopicOrPartition ∷ codes.MessageTooLarge
-    ∷ codes.InvalidRequiredAcks ∷ codes.IllegalGeneration ∷ codes.InconsistentGroupProtocol ∷ codes.InvalidGroupId
-    ∷ codes.UnknownMemberId ∷ codes.InvalidSessionTimeout ∷ codes.RebalanceInProgress ∷ codes.TopicAuthorizationFailed
+all_codes =
+    codes.None ∷ codes.OffsetOutOfRange ∷ codes.CorruptMessage ∷ codes.UnknownTopicOrPartition
+    ∷ codes.MessageTooLarge
+    ∷ codes.InvalidRequiredAcks ∷ codes.IllegalGeneration ∷ codes.InconsistentGroupProtocol
+    ∷ codes.InvalidGroupId
+    ∷ codes.UnknownMemberId ∷ codes.InvalidSessionTimeout ∷ codes.RebalanceInProgress
+    ∷ codes.TopicAuthorizationFailed
     ∷ codes.GroupAuthorizationFailed ∷ codes.ClusterAuthorizationFailed ∷ codes.InvalidTimestamp
-    ∷ codes.UnsupportedSaslMechanism ∷ codes.IllegalSaslState ∷ codes.UnsupportedVersion ∷ codes.InvalidRequest
-    ∷ codes.OutOfOrderSequenceNumber ∷ codes.InvalidProducerEpoch ∷ codes.InvalidTxnState ∷ codes.InvalidProducerIdMapping
-    ∷ codes.InvalidTransactionTimeout ∷ codes.ConcurrentTransactions ∷ codes.TransactionalIdAuthorizationFailed
-    ∷ codes.OperationNotAttempted ∷ codes.SaslAuthenticationFailed ∷ codes.UnsupportedCompressionType
-    ∷ codes.GroupMaxSizeReached ∷ codes.InvalidRecord ∷ codes.UnstableOffsetCommit ∷ codes.ProducerFenced ∷ []
+    ∷ codes.UnsupportedSaslMechanism ∷ codes.IllegalSaslState ∷ codes.UnsupportedVersion
+    ∷ codes.InvalidRequest
+    ∷ codes.OutOfOrderSequenceNumber ∷ codes.InvalidProducerEpoch ∷ codes.InvalidTxnState
+    ∷ codes.InvalidProducerIdMapping
+    ∷ codes.InvalidTransactionTimeout ∷ codes.ConcurrentTransactions
+    ∷ codes.TransactionalIdAuthorizationFailed
+    ∷ codes.OperationNotAttempted ∷ codes.SaslAuthenticationFailed
+    ∷ codes.UnsupportedCompressionType
+    ∷ codes.GroupMaxSizeReached ∷ codes.InvalidRecord ∷ codes.UnstableOffsetCommit
+    ∷ codes.ProducerFenced ∷ []
 
 -- the code that a number tells, if it tells one
 unfoldable pub code_of : ℤ → Option ErrorCode
@@ -67,9 +77,12 @@ unfolding code_of all_codes number_of
 code_of-number_of codes.None = refl
 code_of-number_of _ = refl
 
-pub number_of-code_of : (number : ℤ) (code : ErrorCode) → code_of number ≡ Some code → number_of code ≡ number
+pub number_of-code_of : (number : ℤ) (code : ErrorCode) → code_of number ≡ Some code
+    → number_of code ≡ number
 unfolding code_of
-number_of-code_of number code e = (Decides-int_eq (number_of code) number).0 (find-passes (λ c. int_eq (number_of c) number) all_codes code e)
+number_of-code_of number code e =
+    (Decides-int_eq (number_of code) number).0
+    (find-passes (λ c. int_eq (number_of c) number) all_codes code e)
 
 -- INT16
 abbrev pub error_code : Grammar ErrorCode

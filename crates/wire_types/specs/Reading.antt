@@ -12,7 +12,8 @@ abbrev pub Found : Type 0 → Type 0
 Found A = Result (A × List ℕ) Malformed
 
 infixl 10 ◌>>=◌
-abbrev pub ◌>>=◌ : {A B : Type 0} → Result A Malformed → (A → Result B Malformed) → Result B Malformed
+abbrev pub ◌>>=◌ : {A B : Type 0} → Result A Malformed → (A → Result B Malformed)
+    → Result B Malformed
 (Ok x) >>= f = f x
 (Err e) >>= f = Err e
 
@@ -39,7 +40,9 @@ byte_at (b ∷ rest) = Ok (b, rest)
 -- ---- numbers, big-endian
 
 unfoldable pub nat_at : Width → List ℕ → Found ℕ
-nat_at w bytes = if nat_lt (length bytes) (byte_len w) then Err Short else Ok (from_be_bytes w (take (byte_len w) bytes), drop (byte_len w) bytes)
+nat_at w bytes =
+    if nat_lt (length bytes) (byte_len w) then Err Short
+    else Ok (from_be_bytes w (take (byte_len w) bytes), drop (byte_len w) bytes)
 
 unfoldable pub int_at : Width → List ℕ → Found ℤ
 int_at w bytes = nat_at w bytes >>= λ n. Ok (cast_signed w n.0, n.1)
@@ -72,23 +75,29 @@ items_at one n bytes = if nat_lt (length bytes) n then Err Short else many_at on
 
 -- ---- what stands after its count
 
-unfoldable pub after_count_at : {A : Type 0} → (List ℕ → Found ℕ) → (ℕ → List ℕ → Found A) → List ℕ → Found A
+unfoldable pub after_count_at : {A : Type 0} → (List ℕ → Found ℕ) → (ℕ → List ℕ → Found A) → List ℕ
+    → Found A
 after_count_at count content bytes = count bytes >>= λ n. content n.0 n.1
 
-unfoldable pub null_or : {A : Type 0} → (ℕ → List ℕ → Found A) → Option ℕ → List ℕ → Found (Option A)
+unfoldable pub null_or : {A : Type 0} → (ℕ → List ℕ → Found A) → Option ℕ → List ℕ
+    → Found (Option A)
 null_or content None bytes = Ok (None, bytes)
 null_or content (Some n) bytes = content n bytes >>= λ x. Ok (Some x.0, x.1)
 
-unfoldable pub after_null_count_at : {A : Type 0} → (List ℕ → Found (Option ℕ)) → (ℕ → List ℕ → Found A) → List ℕ → Found (Option A)
+unfoldable pub after_null_count_at : {A : Type 0} → (List ℕ → Found (Option ℕ))
+    → (ℕ → List ℕ → Found A) → List ℕ → Found (Option A)
 after_null_count_at count content bytes = count bytes >>= λ n. null_or content n.0 n.1
 
 -- ---- numbers of variable length
 
--- Seven bits a byte, the low ones first. At most k bytes may follow the first, and the last of them all is at most top.
+-- Seven bits a byte, the low ones first. At most k bytes may follow the first, and the last of them
+-- all is at most top.
 unfoldable pub varint_at : ℕ → ℕ → List ℕ → Found ℕ
 varint_at k top [] = Err Short
 varint_at zero top (b ∷ rest) = if nat_lt top b then Err Range else Ok (b, rest)
-varint_at (suc k) top (b ∷ rest) = if nat_lt b 128 then Ok (b, rest) else (varint_at k top rest >>= λ h. Ok ((b - 128) + 128 * h.0, h.1))
+varint_at (suc k) top (b ∷ rest) =
+    if nat_lt b 128 then Ok (b, rest)
+    else (varint_at k top rest >>= λ h. Ok ((b - 128) + 128 * h.0, h.1))
 
 -- what is below the numbers that such bytes can tell
 unfoldable pub varint_limit : ℕ → ℕ → ℕ

@@ -1,4 +1,5 @@
--- The grammars of the primitives, under the names that the Kafka protocol guide gives them ("Protocol Primitive Types").
+-- The grammars of the primitives, under the names that the Kafka protocol guide gives them
+-- ("Protocol Primitive Types").
 use Rattle.std.specs.Prelude.{◌≡◌, ◌<◌, if◌then◌else◌, ℕ, ℤ, List, [], ◌++◌, length, Bool, true, ◌^◌, Option, None, refl}
 use Rattle.std.specs.Int.{Width, w8, w16, w32, w64, byte_len, to_be_bytes}
 use Rattle.std.specs.Int.RustNames.{FitsSigned}
@@ -137,14 +138,32 @@ null_count g limit counts = record {
 }
 
 pub int16_tells : TellsCounts int16 (2 ^ 15)
-int16_tells = record { below = λ n lt. record { sfits = lt }; inside = λ n fits. fits.sfits; null = record { sfits = lit< tt }; fits = λ z. refl }
+int16_tells =
+    record {
+      below = λ n lt. record { sfits = lt };
+      inside = λ n fits. fits.sfits;
+      null = record { sfits = lit< tt };
+      fits = λ z. refl;
+    }
 
 pub int32_tells : TellsCounts int32 (2 ^ 31)
-int32_tells = record { below = λ n lt. record { sfits = lt }; inside = λ n fits. fits.sfits; null = record { sfits = lit< tt }; fits = λ z. refl }
+int32_tells =
+    record {
+      below = λ n lt. record { sfits = lt };
+      inside = λ n fits. fits.sfits;
+      null = record { sfits = lit< tt };
+      fits = λ z. refl;
+    }
 
 pub varint_tells : TellsCounts varint (2 ^ 31)
 unfolding varint_limit
-varint_tells = record { below = λ n lt. omega (arith, lt); inside = λ n fits. omega (arith, fits); null = lit< tt; fits = λ z. refl }
+varint_tells =
+    record {
+      below = λ n lt. omega (arith, lt);
+      inside = λ n fits. omega (arith, fits);
+      null = lit< tt;
+      fits = λ z. refl;
+    }
 
 -- in two bytes
 abbrev pub null_count16 : Grammar (Option ℕ)
@@ -259,6 +278,8 @@ abbrev pub tags : Grammar (Unit {0})
 tags = skipped_value fields [] 1 no_fields
 
 -- a struct after which a tagged section stands
-abbrev pub tagged_struct : {A S : Type 0} (make : A → S) (parts : S → A) → ((x : A) → parts (make x) ≡ x) → ((s : S) → make (parts s) ≡ s) → Grammar A → Grammar S
+abbrev pub tagged_struct : {A S : Type 0} (make : A → S) (parts : S → A)
+    → ((x : A) → parts (make x) ≡ x) → ((s : S) → make (parts s) ≡ s) → Grammar A → Grammar S
 tagged_struct {A} make parts parts_make make_parts g =
-    struct (λ (x : A × Unit {0}). make x.0) (λ s. (parts s, tt)) (λ x. ap (λ (y : A). (y, tt)) (parts_make x.0)) make_parts (g ⨟ tags)
+    struct (λ (x : A × Unit {0}). make x.0) (λ s. (parts s, tt))
+    (λ x. ap (λ (y : A). (y, tt)) (parts_make x.0)) make_parts (g ⨟ tags)

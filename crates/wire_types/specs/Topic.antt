@@ -12,7 +12,8 @@ topic_of {P} g = struct
     (λ x. refl) (λ t. refl)
     (string ⨟ array g)
 
--- The same in the messages of flexible versions: in compact forms, with a tagged section after each topic.
+-- The same in the messages of flexible versions: in compact forms, with a tagged section after each
+-- topic.
 unfoldable pub flexible_topic_of : {P : Type 0} → Grammar P → Grammar (Topic P)
 flexible_topic_of {P} g = tagged_struct
     (λ (x : List ℕ × List P). record { name = x.0; partitions = x.1 })

@@ -10,6 +10,7 @@ Writes fits whole (Ok done) new = (fits ≡ true) × (new ≡ whole)
 Writes fits whole (Err NoMemory) new = Unit {0}
 Writes fits whole (Err TooLong) new = fits ≡ false
 
--- The writer put the value's spelling after the old bytes. `TooLong` comes only where the value has none.
+-- The writer put the value's spelling after the old bytes. `TooLong` comes only where the value has
+-- none.
 abbrev pub Puts : {A T : Type 0} → Grammar A → A → List ℕ → Result T WriteFault → List ℕ → Type 0
 Puts g x old result new = Writes (g.fits x) (g.put old x) result new
