@@ -65,12 +65,36 @@ fn a_silent_peer_that_has_waited_has_less(rt: HostRuntime) -> Result<(), Fail> {
     Ok(())
 }
 
-/// A peer that has waited long for a worker has the whole time of a login once a frame of it has come whole.
+/// The wait for a worker is taken off the time of a login too, down to two fifths of a second: a first frame wins no more.
 #[test]
-fn a_peer_that_has_waited_and_speaks_has_the_time_of_a_login(rt: HostRuntime) -> Result<(), Fail> {
-    let pieces = [(200, WHOLE), (700, WHOLE), (700, WHOLE)];
-    let times = times().after(Duration::from_secs(60));
-    assert!(rt; end_of(times, &pieces, 9) == (2, Some(8_000), Some(Limit::Login)));
+fn a_peer_that_has_waited_and_speaks_has_less_for_its_login(rt: HostRuntime) -> Result<(), Fail> {
+    let pieces = [(100, WHOLE), (100, WHOLE), (5_000, WHOLE)];
+    for (waited, ends) in [(0, 8_000), (300, 7_700), (600, 7_400), (60_000, 7_400)] {
+        let times = times().after(Duration::from_millis(waited));
+        assert!(rt; end_of(times, &pieces, 9) == (2, Some(ends), Some(Limit::Login)));
+    }
+    Ok(())
+}
+
+/// Where the server ends the session, the next read fails at once, and nothing is read of the stream.
+#[test]
+fn where_the_server_ends_the_session_nothing_is_read(rt: HostRuntime) -> Result<(), Fail> {
+    let clock = Hand::at(7_000);
+    let notes = Notes::new();
+    let (read, waits) = (Cell::new(0), Cell::new(None));
+    let peer = Peer {
+        clock: &clock,
+        pieces: &[(0, WHOLE), (0, WHOLE)],
+        read: &read,
+        waits: &waits,
+    };
+    let mut timed = Timed::new(&clock, peer, times(), &notes);
+    assert!(rt; timed.read(&mut [0u8; 64]).is_ok());
+    assert!(rt; (notes.take_passed(), notes.take_passed()) == (7, 0));
+    notes.log_in();
+    notes.close();
+    assert!(rt; timed.read(&mut [0u8; 64]).is_err());
+    assert!(rt; (read.get(), notes.over()) == (1, None));
     Ok(())
 }
 

@@ -27,12 +27,12 @@ nanos_left_by times known unheard begun now Login =
 nanos_left_by times known unheard begun now Frame =
     option_map (λ since. nanos_left times.frame (as_nanos since) now) begun
 
--- the time of a first frame for who has waited for so long to be served: the rest of it, and the
--- least time at least, unless there was less from the first
-abbrev pub first_after : ℕ → ℕ → ℕ → ℕ
-first_after least first waited =
-    if nat_lt (first - waited) least then (if nat_lt first least then first else least)
-    else first - waited
+-- what a time leaves who has waited for so long to be served: the rest of it, and the least time at
+-- least, unless there was less from the first
+abbrev pub time_after : ℕ → ℕ → ℕ → ℕ
+time_after least time waited =
+    if nat_lt (time - waited) least then (if nat_lt time least then time else least)
+    else time - waited
 
 -- what a limit leaves is this bound, or there is none where it doesn't hold
 abbrev pub IsBound : Limit → Option ℕ → Option Bound → Type 0

@@ -6,13 +6,14 @@ use std::io::ErrorKind;
 use std::time::{Duration, Instant};
 use std::{io, time};
 
-/// What is noted of a session by those who share it: its server notes that its user is known; `Timed` and `TimedWriter` note
-/// which time ran out, how many bytes were read, and which four came first.
+/// What is noted of a session by those who share it: its server notes that its user is known, and that it is to end; `Timed` and
+/// `TimedWriter` note which time ran out, how many bytes were read and written, and which four came first.
 #[derive(Drop)]
 pub struct Notes {
     known: Cell<bool>,
+    closed: Cell<bool>,
     over: Cell<Option<Limit>>,
-    read: Cell<u64>,
+    passed: Cell<u64>,
     /// The first four bytes of what was read first, if that has as many.
     front: OnceCell<Option<[u8; 4]>>,
 }
@@ -22,8 +23,9 @@ impl Notes {
     pub fn new() -> Notes {
         Notes {
             known: Cell::new(false),
+            closed: Cell::new(false),
             over: Cell::new(None),
-            read: Cell::new(0),
+            passed: Cell::new(0),
             front: OnceCell::new(),
         }
     }
@@ -33,11 +35,23 @@ impl Notes {
         self.known.set(true);
     }
 
-    /// How many bytes were read since the last call; the count starts again at 0.
-    pub fn take_read(&self) -> u64 {
-        let read = self.read.get();
-        self.read.set(0);
-        read
+    /// Notes that the server ends the session: from now on each read and each write fails with `ConnectionAborted`, and waits for
+    /// nobody.
+    pub fn close(&self) {
+        self.closed.set(true);
+    }
+
+    /// How many bytes were read and written since the last call; the count starts again at 0.
+    pub fn take_passed(&self) -> u64 {
+        let passed = self.passed.get();
+        self.passed.set(0);
+        passed
+    }
+
+    /// Counts bytes that were read or written.
+    fn count(&self, bytes: usize) {
+        self.passed
+            .set(self.passed.get().saturating_add(bytes as u64));
     }
 
     /// Which time was over when a read or a write failed last; `None` where none was.
@@ -83,12 +97,16 @@ impl<'x, R: time::Clock> Course<'x, R> {
 
     /// How long the next read or write may wait, and by which limit; `None` where no limit holds. `unheard`: whether no frame has
     /// come whole yet; `begun`: when a frame began that isn't whole, counted from the session's beginning. Where no time is left,
-    /// or the clock can't be read under a limit, the limit is noted, and the error is `TimedOut`.
+    /// or the clock can't be read under a limit, the limit is noted, and the error is `TimedOut`; where the session is to end, it
+    /// is `ConnectionAborted`.
     pub(crate) fn bound(
         &self,
         unheard: bool,
         begun: Option<Duration>,
     ) -> io::Result<Option<Bound>> {
+        if self.notes.closed.get() {
+            return Err(ErrorKind::ConnectionAborted.into());
+        }
         let known = self.notes.known.get();
         let bound = self.times.bound(known, unheard, begun, self.now());
         if let Some(bound) = bound {
@@ -101,10 +119,14 @@ impl<'x, R: time::Clock> Course<'x, R> {
     }
 
     /// Notes what a read brought: adds to the number of bytes, and keeps the first four bytes of the session's first read.
-    pub(crate) fn count(&self, bytes: &[u8]) {
-        let read = self.notes.read.get();
-        self.notes.read.set(read.saturating_add(bytes.len() as u64));
+    pub(crate) fn count_read(&self, bytes: &[u8]) {
+        self.notes.count(bytes.len());
         let _later = self.notes.front.set(front_of(bytes));
+    }
+
+    /// Adds to the number of bytes those that a write took.
+    pub(crate) fn count_written(&self, bytes: usize) {
+        self.notes.count(bytes);
     }
 
     /// Notes which limit ended a read or a write that waited too long, where its error is `WouldBlock` or `TimedOut`. Other

@@ -1,10 +1,10 @@
 //! The times of a session, and what they leave.
 
-ghost use Rattle.std.specs.Prelude.{◌≡◌, IfSome, IfNone, None, Some, option_map};
+ghost use Rattle.std.specs.Prelude.{◌≡◌, ◌*◌, IfSome, IfNone, None, Some, option_map};
 ghost use Rattle.std.specs.Duration.{as_nanos};
 ghost use Rattle.deadlines.specs.declared.limits.Limit.{Limit};
 ghost use Rattle.deadlines.specs.declared.limits.Times.{Times};
-ghost use Rattle.deadlines.specs.Limits.{IsBound, IsLeast, IsLesser, first_after, nanos_left, nanos_left_by, login_time};
+ghost use Rattle.deadlines.specs.Limits.{IsBound, IsLeast, IsLesser, nanos_left, nanos_left_by, login_time, time_after};
 
 use std::time::Duration;
 
@@ -70,27 +70,44 @@ fn bound_by(by: Limit, time: Duration) -> Option<Bound>
 
 /// The least time that a wait in line leaves for a first frame, in milliseconds: whoever has something to say has said it by
 /// then.
-const LEAST: u64 = 250;
+const LEAST_FIRST: u64 = 250;
+
+/// The least time that a wait in line leaves for a login, in milliseconds: three requests, each sent once the answer before it
+/// has come, over a way of a tenth of a second there and back.
+const LEAST_LOGIN: u64 = 400;
+
+/// What a wait of so long leaves of a time: the rest of it, but at least so many milliseconds, or all of it where it has less.
+fn time_after(least: u64, time: Duration, waited: Duration) -> Duration
+    ensures { as_nanos result ≡ time_after (least * 1000000) (as_nanos time) (as_nanos waited) }
+{
+    let least = Duration::from_millis(least);
+    let rest = time.saturating_sub(waited);
+    if least <= rest {
+        rest
+    } else if time < least {
+        time
+    } else {
+        least
+    }
+}
 
 impl Times {
     /// These times for a peer whose connection waited so long for a free worker. The wait is taken off `first`, which keeps at
-    /// least 250 ms, or all that it had where it was less. So whoever waits for a worker after many silent peers needn't wait for
-    /// each of them as long as for the first.
+    /// least 250 ms, and off `login`, which keeps at least 400 ms, or all that they had where it was less. So whoever waits for a
+    /// worker after many peers that say nothing, or no more than their first frame, needn't wait for each of them as long as for
+    /// the first.
     pub fn after(self, waited: Duration) -> Times
-        ensures first { as_nanos result.first ≡ first_after 250000000 (as_nanos self.first)
+        ensures first { as_nanos result.first ≡ time_after 250000000 (as_nanos self.first)
             (as_nanos waited) }
-        ensures others { result ≡ record self { first = result.first } }
+        ensures login { as_nanos result.login ≡ time_after 400000000 (as_nanos self.login)
+            (as_nanos waited) }
+        ensures others { result ≡ record self { first = result.first; login = result.login } }
     {
-        let least = Duration::from_millis(LEAST);
-        let rest = self.first.saturating_sub(waited);
-        let first = if least <= rest {
-            rest
-        } else if self.first < least {
-            self.first
-        } else {
-            least
-        };
-        Times { first, ..self }
+        Times {
+            first: time_after(LEAST_FIRST, self.first, waited),
+            login: time_after(LEAST_LOGIN, self.login, waited),
+            ..self
+        }
     }
 
     /// The bound of the idle time; `None` if there is no such time.

@@ -73,7 +73,7 @@ impl<'x, S: Read + OpenStream, R: time::Clock> Timed<'x, S, R> {
             × IsCut (came ++ bytes_at moment bytes.now) self.new.progress }
     {
         let now = self.course.now().unwrap_or(Duration::ZERO);
-        self.course.count(bytes);
+        self.course.count_read(bytes);
         self.progress.pass(bytes, now);
         if !bytes.is_empty() && self.progress.begun().is_none() {
             self.unheard = false;

@@ -61,7 +61,10 @@ impl<'x, S: Write + OpenStream, R: time::Clock> Write for TimedWriter<'x, S, R> 
     {
         let bound = self.prepare()?;
         match self.stream.write(bytes) {
-            Ok(count) => Ok(count),
+            Ok(count) => {
+                self.course.count_written(count);
+                Ok(count)
+            }
             Err(error) => {
                 self.course.note(bound, &error);
                 Err(error)
