@@ -10,7 +10,7 @@ use Rattle.std.specs.declared.alloc.Global.{Global}
 use Rattle.std.proofs.lemmas.Slice.Eq.{bytes_eq-Decides}
 use Rattle.std.proofs.lemmas.Map.Text.{hash_map_updates_text}
 use Rattle.std.proofs.lemmas.Bool.{false_from_ne_true}
-use Rattle.admission.specs.Hosts.{HostsValue, HasOneMore, connections, counts_of}
+use Rattle.admission.specs.Quota.{QuotaValue, HasOneMore, connections, counts_of}
 use Rattle.admission.specs.Kept.{IsKept, connections_in}
 
 -- a host is found among the counts as in the table
@@ -22,7 +22,7 @@ abbrev pub Table : Type 0 → Type 0
 Table S = HashMap (String Global) ℕ S
 
 -- what contracts see of a table
-abbrev pub seen : {S : Type 0} → ℕ → Table S → HostsValue
+abbrev pub seen : {S : Type 0} → ℕ → Table S → QuotaValue
 seen most table = record { most = most; counts = counts_of table.entries }
 
 -- the table with w at a host, and at every other what it had

@@ -1,7 +1,7 @@
 -- Until when users have paid, as a table keeps it.
 use Rattle.std.proofs.Common.{ℕ, List, Some, refl, sym, ◌∙◌}
 use Rattle.admission.specs.declared.pace.Rate.{Rate}
-use Rattle.admission.specs.Hosts.{counts_of}
+use Rattle.admission.specs.Quota.{counts_of}
 use Rattle.admission.specs.Pace.{PaceValue, HasPaid}
 use Rattle.admission.proofs.Counts.{Table, Puts, connections_seen, here_after, other_after}
 

@@ -1,4 +1,4 @@
-pub mod Hosts
+pub mod Quota
 pub mod Kept
 pub mod Pace
 pub mod Peers

@@ -2,6 +2,7 @@
 use Rattle.std.specs.Prelude.{◌≡◌, ◌≢◌, ℕ, ◌+◌, ◌-◌, ◌*◌, ◌/◌, ◌&&◌, min, max, Bool, is_none, List, Option, Some, None, unwrap_or}
 use Rattle.std.specs.Map.{lookup}
 use Rattle.std.specs.Str.{bytes_eq}
+use Rattle.admission.specs.declared.pace.Load.{Load}
 use Rattle.admission.specs.declared.pace.Rate.{Rate}
 
 -- nobody is held to a rate without a number
@@ -20,14 +21,13 @@ abbrev pub cost : Option ℕ → ℕ → ℕ
 cost None things = 0
 cost (Some rate) things = min (things * second / max rate 1) last_moment
 
--- a request of so many bytes costs what is the dearer of it, that it is one and that it has these
--- bytes
-abbrev pub price : Rate → ℕ → ℕ
-price rate bytes = max (cost rate.requests 1) (cost rate.bytes bytes)
+-- a request costs what is the dearer of it, its events, each as a request, or its bytes
+abbrev pub price : Rate → Load → ℕ
+price rate load = max (cost rate.requests load.events) (cost rate.bytes load.bytes)
 
 -- until when a user has paid that asks at this moment, and had paid until then
-abbrev pub paid_after : Rate → ℕ → ℕ → ℕ → ℕ
-paid_after rate paid now bytes = min (max paid now + price rate bytes) last_moment
+abbrev pub paid_after : Rate → ℕ → ℕ → Load → ℕ
+paid_after rate paid now load = min (max paid now + price rate load) last_moment
 
 -- a user is let go on that is at most a second ahead
 abbrev pub wait : ℕ → ℕ → ℕ

@@ -19,6 +19,9 @@ pub trait Doorman {
     /// A connection was closed unserved, since the desk has no seat left for its session. Each of them is told.
     fn unseated(&self) {}
 
+    /// A session is served by a seat that none had before. Each of them is told.
+    fn seated(&self) {}
+
     /// A connection was accepted, and is to be served by one of so many workers, for which it may wait.
     fn taken(&self, _workers: usize) {}
 

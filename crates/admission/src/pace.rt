@@ -8,12 +8,21 @@ use std::alloc::{AllocError, Global};
 use std::marker::Model;
 use wire_types::Text;
 
-/// How many requests, and how many bytes of requests, each user may send in a second; `None` for any number. A rate of 0 counts
-/// as one of 1.
+/// How many requests each user may send in a second, and how many bytes of requests and answers; `None` for any number. A rate of
+/// 0 counts as one of 1.
 #[derive(Clone, Copy, Debug, PartialEq, Eq)]
 pub struct Rate {
     pub requests: Option<u64>,
     pub bytes: Option<u64>,
+}
+
+/// What a user is charged for with a request.
+#[derive(Clone, Copy, Debug, PartialEq, Eq)]
+pub struct Load {
+    /// The events that a trail keeps for it: its own, and the marker that each partition of a transaction comes to.
+    pub events: u64,
+    /// The bytes that were read and written for it.
+    pub bytes: u64,
 }
 
 /// The nanoseconds of a second.
@@ -53,19 +62,20 @@ impl Rate {
         self.requests.is_none() && self.bytes.is_none()
     }
 
-    /// What a request of so many bytes costs, in nanoseconds: its cost by the requests' rate or by the bytes', whichever is more.
-    fn price(&self, bytes: u64) -> u64
-        ensures { result ≡ price self.now bytes }
+    /// What a request of this load costs, in nanoseconds: its cost by the requests' rate, each event as one of them, or by the
+    /// bytes', whichever is more.
+    fn price(&self, load: Load) -> u64
+        ensures { result ≡ price self.now load }
     {
-        cost(self.requests, 1).max(cost(self.bytes, bytes))
+        cost(self.requests, load.events).max(cost(self.bytes, load.bytes))
     }
 
-    /// Until which moment a user has paid that had paid until `paid`, and sends a request of so many bytes at `now`: the
-    /// request's price is added to the later of the two. Moments are nanoseconds, and end at `u64::MAX`.
-    fn paid_after(&self, paid: u64, now: u64, bytes: u64) -> u64
-        ensures { result ≡ paid_after self.now paid now bytes }
+    /// Until which moment a user has paid that had paid until `paid`, and sends a request of this load at `now`: the request's
+    /// price is added to the later of the two. Moments are nanoseconds, and end at `u64::MAX`.
+    fn paid_after(&self, paid: u64, now: u64, load: Load) -> u64
+        ensures { result ≡ paid_after self.now paid now load }
     {
-        paid.max(now).saturating_add(self.price(bytes))
+        paid.max(now).saturating_add(self.price(load))
     }
 }
 
@@ -77,7 +87,7 @@ pub struct Pace {
 
 impl Model for Pace {
     ghost use Rattle.admission.specs.Pace.{PaceValue};
-    ghost use Rattle.admission.specs.Hosts.{counts_of};
+    ghost use Rattle.admission.specs.Quota.{counts_of};
 
     ghost Value = { PaceValue };
 
@@ -115,24 +125,24 @@ impl Pace {
         }
     }
 
-    /// Charges a user for a request of so many bytes, read at `now` in nanoseconds, and gives for how many nanoseconds the user
+    /// Charges a user for a request of this load, answered at `now` in nanoseconds, and gives for how many nanoseconds the user
     /// must wait before the next one is read. An allocation failure charges nothing.
     pub fn charge(
         &mut self,
         alloc: Global,
         user: &Text,
         now: u64,
-        bytes: u64,
+        load: Load,
     ) -> Result<u64, AllocError>
         ensures wait { IfOk result
             (λ nanoseconds. nanoseconds
-            ≡ wait (paid_after self.old.rate (paid_until self.old user.now) now bytes) now) }
+            ≡ wait (paid_after self.old.rate (paid_until self.old user.now) now load) now) }
         ensures paid { OnOk result
             (HasPaid self.old self.new user.now
-            (paid_after self.old.rate (paid_until self.old user.now) now bytes)) }
+            (paid_after self.old.rate (paid_until self.old user.now) now load)) }
         ensures err { OnErr result (self.new ≡ self.old) }
     {
-        let paid = self.rate.paid_after(self.paid(user), now, bytes);
+        let paid = self.rate.paid_after(self.paid(user), now, load);
         self.table.insert(user.to_owned(alloc)?, paid)?;
         Ok(wait(paid, now))
     }
