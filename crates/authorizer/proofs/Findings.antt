@@ -141,7 +141,7 @@ uncovered : (c r : Bool) → c ≡ false → (c && r) ≡ false
 uncovered true r h = absurd (let clash : true ≡ false = h in cc)
 uncovered false r h = refl
 
-with_head : (d : Bool) (n : ℕ) (a b : List ℕ) → least_of a ≡ least_of b → least_of (cond d (n ∷ a) a) ≡ least_of (cond d (n ∷ b) b)
+pub with_head : (d : Bool) (n : ℕ) (a b : List ℕ) → least_of a ≡ least_of b → least_of (cond d (n ∷ a) a) ≡ least_of (cond d (n ∷ b) b)
 with_head true n a b h = ap (λ (o : Option ℕ). Some (lesser_of n o)) h
 with_head false n a b h = h
 

@@ -20,7 +20,7 @@ pub unwrapped : (xs : List Numbered) → unwrap_or (nonempty xs) [] ≡ xs
 unwrapped [] = refl
 unwrapped (x ∷ xs) = refl
 
-pushed : (xs : List Numbered) (e : Numbered) → Some (xs ++ e ∷ []) ≡ nonempty (xs ++ e ∷ [])
+pub pushed : (xs : List Numbered) (e : Numbered) → Some (xs ++ e ∷ []) ≡ nonempty (xs ++ e ∷ [])
 pushed [] e = refl
 pushed (x ∷ xs) e = refl
 
@@ -101,7 +101,7 @@ other_kind k kind es e other is = record {
 
 -- ---- what `clean` leaves
 
-filter_swap : (p s : Numbered → Bool) (es : List Numbered) → filter s (filter p es) ≡ filter p (filter s es)
+pub filter_swap : (p s : Numbered → Bool) (es : List Numbered) → filter s (filter p es) ≡ filter p (filter s es)
 filter_swap p s [] = refl
 filter_swap p s (e ∷ es) = by (filter_swap p s es) (p e) (s e) refl refl where
   by : filter s (filter p es) ≡ filter p (filter s es) → (a b : Bool) → p e ≡ a → s e ≡ b → filter s (cond a (e ∷ filter p es) (filter p es)) ≡ filter p (cond b (e ∷ filter s es) (filter s es))

@@ -4,6 +4,7 @@ pub mod Tally
 pub mod Settled
 pub mod Permits
 pub mod Index
+pub mod Principals
 pub mod Looking
 pub mod Longest
 pub mod LookUps

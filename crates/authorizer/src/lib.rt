@@ -17,7 +17,9 @@ mod paid;
 mod permit;
 mod picking;
 mod policy;
+mod principals;
 mod settled;
+mod shelf;
 mod tally;
 
 pub use answer::{Answer, DenyReason, Refusal};

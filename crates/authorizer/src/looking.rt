@@ -27,7 +27,7 @@ pub struct Finding {
 
 impl Finding {
     /// The finding of no bindings: nothing is denied, nothing allowed.
-    fn none() -> Finding
+    pub(crate) fn none() -> Finding
         ensures { result ≡ record { denied = None; allowed = false } }
     {
         Finding {
@@ -37,7 +37,7 @@ impl Finding {
     }
 
     /// What these bindings, in creation order, say to the question.
-    fn of(entries: &[Shared<Numbered>], question: &Question) -> Finding
+    pub(crate) fn of(entries: &[Shared<Numbered>], question: &Question) -> Finding
         requires { IsRising 1 entries.now }
         ensures { result ≡ finding_of entries.now question.now }
     {
@@ -92,7 +92,7 @@ pub(crate) fn look_up_name(
     ensures finding { result ≡ finding_of (bindings_under names.now name.now) question.now }
     ensures looked { looked.new ≡ looked.old + 1 }
 {
-    Finding::of(names.look_up(name, looked), question)
+    names.look_up(name, question, looked)
 }
 
 /// Returns what the prefixed bindings say whose names begin the question's name. `names` holds the prefixed bindings of the

@@ -4,7 +4,7 @@ ghost use Rattle.std.specs.Prelude.{◌≡◌, ◌+◌, ◌^◌, ◌<◌, ◌++�
 ghost use Rattle.std.specs.HashMap.{keys};
 ghost use Rattle.authorizer.specs.Longest.{lengths, IsLongest};
 
-use crate::bucket::Bucket;
+use crate::shelf::Shelf;
 use indexmap::IndexMap;
 use std::hash::RandomState;
 
@@ -25,11 +25,11 @@ impl Longest {
     }
 
     /// How long a table's longest name is and how many names are that long, found by a look at all its names.
-    pub(crate) fn of(buckets: &IndexMap<String, Bucket, RandomState>) -> Longest
-        ensures { IsLongest result (lengths (keys buckets.now)) }
+    pub(crate) fn of(shelves: &IndexMap<String, Shelf, RandomState>) -> Longest
+        ensures { IsLongest result (lengths (keys shelves.now)) }
     {
         let mut longest = Longest::none();
-        for (name, _bucket) in buckets.iter() {
+        for (name, _shelf) in shelves.iter() {
             longest.add(name.as_str().len());
         }
         longest

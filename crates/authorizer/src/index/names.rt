@@ -1,6 +1,6 @@
 //! The bindings of one kind and one pattern type, by their names.
 
-ghost use Rattle.std.specs.Prelude.{◌≡◌, ◌+◌, ◌^◌, ◌<◌, [], ◌∷◌, ◌++◌, ◌&&◌, List, ℕ, length, Some, None, if◌then◌else◌, OnOk, OnErr};
+ghost use Rattle.std.specs.Prelude.{◌≡◌, ◌+◌, ◌^◌, ◌<◌, [], ◌∷◌, ◌++◌, ◌&&◌, List, ℕ, length, Some, None, if◌then◌else◌, option_map, unwrap_or, OnOk, OnErr};
 ghost use Rattle.std.specs.HashMap.{get_by_text, keys};
 ghost use Rattle.std.specs.Str.{bytes_eq};
 ghost use Rattle.std.specs.List.{list_any};
@@ -10,12 +10,14 @@ ghost use Rattle.acl_binding.specs.declared.words.Pattern.{Pattern};
 ghost use Rattle.authorizer.specs.AnyTopic.{is_of, is_unbarred};
 ghost use Rattle.authorizer.specs.Index.{bindings_under, HasMore, HasSame, HasLess, HasLessAt};
 ghost use Rattle.authorizer.specs.Longest.{lengths, longest_name};
-ghost use Rattle.authorizer.specs.Looking.{IsTableOf};
+ghost use Rattle.acl_binding.specs.Book.{IsRising};
+ghost use Rattle.authorizer.specs.Looking.{finding_of, IsTableOf};
 
-use crate::bucket::Bucket;
 use crate::index::longest::Longest;
 use crate::indexed::IndexedBook;
-use acl_binding::{Filter, Numbered};
+use crate::looking::Finding;
+use crate::shelf::Shelf;
+use acl_binding::{Filter, Numbered, Question};
 use indexmap::IndexMap;
 use std::alloc::{AllocError, Global};
 use std::hash::RandomState;
@@ -29,7 +31,7 @@ pub(crate) const ANY_NAME: &str = "*";
 /// its longest name: a longer one is looked up without being hashed.
 #[derive(Drop)]
 pub struct Names {
-    buckets: IndexMap<String, Bucket, RandomState>,
+    shelves: IndexMap<String, Shelf, RandomState>,
     longest: Longest,
 }
 
@@ -42,9 +44,9 @@ impl Model for Names {
 
     ghost Value = { List (List ℕ × List Numbered) };
 
-    ghost view = { λ n. rows n.buckets.entries };
+    ghost view = { λ n. rows n.shelves.entries };
 
-    ghost invariant = { λ n. IsLongest n.longest (lengths (keys n.buckets)) };
+    ghost invariant = { λ n. IsLongest n.longest (lengths (keys n.shelves)) };
 }
 
 impl Names {
@@ -53,7 +55,7 @@ impl Names {
         ensures { result ≡ [] }
     {
         Names {
-            buckets: IndexMap::with_hasher(alloc, hasher),
+            shelves: IndexMap::with_hasher(alloc, hasher),
             longest: Longest::none(),
         }
     }
@@ -65,28 +67,39 @@ impl Names {
         self.longest.bytes
     }
 
+    /// The shelf of this name; `None` if there are no bindings of it.
+    fn shelf(&self, name: &str) -> Option<&Shelf>
+        ensures { unwrap_or (option_map (λ s. s.now) result) [] ≡ bindings_under self.now name.now }
+    {
+        if name.len() > self.longest.bytes {
+            return None;
+        }
+        self.shelves.get(name)
+    }
+
     /// The bindings of this name, in creation order; empty if there are none. This look-up isn't counted; verdicts use
     /// `look_up`.
     pub(super) fn held(&self, name: &str) -> &[Shared<Numbered>]
         ensures { result.now ≡ bindings_under self.now name.now }
     {
-        if name.len() > self.longest.bytes {
-            return &[];
-        }
-        match self.buckets.get(name) {
-            Some(bucket) => bucket.as_slice(),
+        match self.shelf(name) {
+            Some(shelf) => shelf.as_slice(),
             None => &[],
         }
     }
 
-    /// The bindings of this name, in creation order; empty if there are none. Counts the look-up in `looked`.
-    pub(crate) fn look_up(&self, name: &str, looked: &mut u64) -> &[Shared<Numbered>]
-        requires { looked.old + 1 < 2 ^ 64 }
-        ensures held { result.now ≡ bindings_under self.now name.now }
+    /// What the bindings of this name say to the question. Counts the look-up in `looked`.
+    pub(crate) fn look_up(&self, name: &str, question: &Question, looked: &mut u64) -> Finding
+        requires rising { IsRising 1 (bindings_under self.now name.now) }
+        requires count { looked.old + 1 < 2 ^ 64 }
+        ensures finding { result ≡ finding_of (bindings_under self.now name.now) question.now }
         ensures looked { looked.new ≡ looked.old + 1 }
     {
         *looked += 1;
-        self.held(name)
+        match self.shelf(name) {
+            Some(shelf) => shelf.finding(question),
+            None => Finding::none(),
+        }
     }
 
     /// Whether some binding in the table allows this principal at this host to WRITE, and no DENY in `book` covers all
@@ -97,8 +110,8 @@ impl Names {
             ≡ list_any (λ (e : Entry). is_of kind pattern e && is_unbarred book.now.entries who.now
             host.now e) es }
     {
-        for (_name, bucket) in self.buckets.iter() {
-            if bucket.any_not_overridden(book, who, host) {
+        for (_name, shelf) in self.shelves.iter() {
+            if shelf.any_not_overridden(book, who, host) {
                 return true;
             }
         }
@@ -116,12 +129,13 @@ impl Names {
         ensures ok { OnOk result (HasMore self.old self.new name.now entry) }
         ensures err { OnErr result (HasSame self.old self.new) }
     {
-        match self.buckets.get_mut(name) {
-            Some(bucket) => bucket.push(entry)?,
+        let hasher = *self.shelves.hasher();
+        match self.shelves.get_mut(name) {
+            Some(shelf) => shelf.push(alloc, hasher, entry)?,
             None => {
-                add_name(&mut self.buckets, alloc, name, entry)?;
+                add_name(&mut self.shelves, alloc, name, entry)?;
                 // (no more names are as long as the longest than there are)
-                prove!(self.longest.names < self.buckets.len());
+                prove!(self.longest.names < self.shelves.len());
                 self.longest.add(name.len());
             }
         }
@@ -132,25 +146,24 @@ impl Names {
     pub(crate) fn clean(&mut self, filter: &Filter)
         ensures { HasLess self.old self.new filter.now }
     {
-        if self.buckets.len() == 0 {
+        if self.shelves.len() == 0 {
             return;
         }
-        self.buckets
-            .retain(|_, bucket| bucket.keep_unmatched(filter));
-        self.longest = Longest::of(&self.buckets);
+        self.shelves.retain(|_, shelf| shelf.keep_unmatched(filter));
+        self.longest = Longest::of(&self.shelves);
     }
 
     /// Drops the bindings of this name that match the filter, and the name if it then has none.
     pub(crate) fn clean_at(&mut self, name: &str, filter: &Filter)
         ensures { HasLessAt self.old self.new name.now filter.now }
     {
-        let Some(bucket) = self.buckets.get_mut(name) else {
+        let Some(shelf) = self.shelves.get_mut(name) else {
             return;
         };
-        if !bucket.keep_unmatched(filter) {
-            self.buckets.swap_remove(name);
+        if !shelf.keep_unmatched(filter) {
+            self.shelves.swap_remove(name);
             if !self.longest.lose(name.len()) {
-                self.longest = Longest::of(&self.buckets);
+                self.longest = Longest::of(&self.shelves);
             }
         }
     }
@@ -158,22 +171,22 @@ impl Names {
 
 /// Puts a name that isn't in the table there, with its first binding. An allocation failure changes nothing.
 fn add_name(
-    buckets: &mut IndexMap<String, Bucket, RandomState>,
+    shelves: &mut IndexMap<String, Shelf, RandomState>,
     alloc: Global,
     name: &str,
     entry: Shared<Numbered>,
 ) -> Result<(), AllocError>
     ensures ok { OnOk result
-        ((other : List ℕ) → get_by_text buckets.new other
-        ≡ (if bytes_eq name.now other then Some (entry ∷ []) else get_by_text buckets.old
+        ((other : List ℕ) → get_by_text shelves.new other
+        ≡ (if bytes_eq name.now other then Some (entry ∷ []) else get_by_text shelves.old
         other)) }
     ensures last { OnOk result
-        (get_by_text buckets.old name.now ≡ None → lengths (keys buckets.new)
-        ≡ lengths (keys buckets.old) ++ length name.now ∷ []) }
-    ensures err { OnErr result (buckets.new.entries ≡ buckets.old.entries) }
+        (get_by_text shelves.old name.now ≡ None → lengths (keys shelves.new)
+        ≡ lengths (keys shelves.old) ++ length name.now ∷ []) }
+    ensures err { OnErr result (shelves.new.entries ≡ shelves.old.entries) }
 {
-    let bucket = Bucket::of(alloc, entry)?;
+    let shelf = Shelf::of(alloc, entry)?;
     let name = String::from_str(alloc, name)?;
-    buckets.insert(name, bucket)?;
+    shelves.insert(name, shelf)?;
     Ok(())
 }

@@ -19,7 +19,7 @@ loop-name-init c = record {
 
 pub add-requires : goal.add-requires
 add-requires c =
-    let few = few_names c.loop-name.longest c.loop-name.invariant.before (keys_of c.loop-name.name-iterator) c.args.buckets.now.entries c.loop-name.invariant.longest c.loop-name.invariant.all in
+    let few = few_names c.loop-name.longest c.loop-name.invariant.before (keys_of c.loop-name.name-iterator) c.args.shelves.now.entries c.loop-name.invariant.longest c.loop-name.invariant.all in
     omega arith
 
 pub loop-name-preserved : goal.loop-name-preserved
@@ -38,5 +38,5 @@ pub returns : goal.returns
 returns c =
     let before = c.loop-name.invariant.before in
     let none : keys_of c.loop-name.name-iterator ≡ [] = ap (keys_of {K = String Global} {X = List Numbered}) c.in-None.ensures.steps.0 in
-    let all : before ≡ keys c.args.buckets.now = sym (append-nil before) ∙ ap (λ (ks : List (String Global)). before ++ ks) (sym none) ∙ c.loop-name.invariant.all in
+    let all : before ≡ keys c.args.shelves.now = sym (append-nil before) ∙ ap (λ (ks : List (String Global)). before ++ ks) (sym none) ∙ c.loop-name.invariant.all in
     subst (λ (ks : List (String Global)). IsLongest c.loop-name.longest (lengths ks)) all c.loop-name.invariant.longest

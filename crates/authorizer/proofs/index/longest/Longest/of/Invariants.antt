@@ -11,7 +11,7 @@ use Rattle.authorizer.proofs.index.longest.Longest.of.Given as goal
 abbrev pub invariant-loop-name : goal.invariant-loop-name
 invariant-loop-name l = record {
   before : List (String Global);
-  all : before ++ keys_of l.name-iterator ≡ keys l.buckets;
+  all : before ++ keys_of l.name-iterator ≡ keys l.shelves;
   longest : IsLongest l.longest (lengths before);
-  fits : index_map_len l.buckets < 2 ^ 63;
+  fits : index_map_len l.shelves < 2 ^ 63;
 }

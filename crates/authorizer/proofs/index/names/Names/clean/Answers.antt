@@ -10,4 +10,4 @@ pub returns : goal.returns
 returns c = rw (← c.self.view_is) (λ other.
     sym (found_rows c.retain.new.self.entries other)
     ∙ lookup_retained _ (is_not_matched c.args.filter.now) _ (λ k v b w f' t. search rules) other _ _ c.len.ensures.unique c.retain.ensures.filtered
-    ∙ ap (option_and_then (λ (held : List Numbered). nonempty (filter (is_not_matched c.args.filter.now) held))) (found_rows c.self.inside.buckets.entries other))
+    ∙ ap (option_and_then (λ (held : List Numbered). nonempty (filter (is_not_matched c.args.filter.now) held))) (found_rows c.self.inside.shelves.entries other))
