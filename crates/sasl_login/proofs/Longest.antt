@@ -1,9 +1,9 @@
 -- The longest message that logs somebody in.
-use Rattle.std.proofs.Common.{◌≡◌, ℕ, suc, ◌+◌, ◌<◌, ◌≤◌, List, [], ◌∷◌, ◌++◌, length, get_or, drop, drop-cons, add-one, Some, sym, ap, ◌∙◌, subst, arith, ◌⊎◌, inl, inr, length-append}
-use Rattle.std.specs.Prelude.{max, min}
+use Rattle.std.proofs.Common.{◌≡◌, ℕ, suc, ◌+◌, ◌<◌, ◌≤◌, List, [], ◌∷◌, ◌++◌, length, get_or, drop, drop-cons, add-one, Option, Some, None, refl, sym, ap, ◌∙◌, subst, arith, ◌⊎◌, inl, inr, length-append}
+use Rattle.std.specs.Prelude.{max, min, option_map}
 use Rattle.std.proofs.lemmas.List.{drop_all}
 use Rattle.settings_text.specs.declared.document.User.{User}
-use Rattle.sasl_login.specs.LoginMessage.{login_of, length_of_login, longest_login}
+use Rattle.sasl_login.specs.LoginMessage.{login_of, user_of, principal_of, length_of_login, longest_login}
 use Rattle.sasl_login.specs.Plain.{IsOneOf, IsLogin}
 use Rattle.sasl_login.proofs.Plain.{exact}
 
@@ -27,6 +27,14 @@ pub no_longer : (users : List User) (message who : List ℕ) → login_of users 
 no_longer users message who h =
     let is = (exact users message).alone who h in
     omega (arith, login_short message is.user is.login, of_one users is.user is.known)
+
+nobody : (users : List User) (message : List ℕ) (o : Option User) → o ≡ user_of users message → longest_login users < length message → None ≡ o
+nobody users message None same long = refl
+nobody users message (Some u) same long = absurd (omega (arith, no_longer users message (principal_of u) (ap (option_map principal_of) (sym same)), long))
+
+-- a message that is longer than each user's is no user's
+pub too_long : (users : List User) (message : List ℕ) (most len top : ℕ) → most ≡ min (longest_login users) top → len ≡ length message → len ≤ top → most < len → None ≡ user_of users message
+too_long users message most len top is_most is_len small long = nobody users message (user_of users message) refl (omega (arith, is_most, is_len, small, long))
 
 -- ---- as it is found, one user after the other
 

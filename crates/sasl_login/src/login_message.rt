@@ -4,7 +4,7 @@ ghost use Rattle.std.specs.Prelude.{◌≡◌, IfOk, option_map};
 ghost use Rattle.std.specs.List.{position};
 ghost use Rattle.sasl_login.specs.LoginMessage.{is_nul, parts_at_nul, plain_of, user_of, principal_of};
 
-use crate::users::find_user;
+use crate::users::{find_user, longest_login};
 use settings_text::{User, Users};
 use std::alloc::{AllocError, Global};
 use wire_types::Text;
@@ -51,10 +51,15 @@ fn split_plain(message: &[u8]) -> Option<Plain<'_>>
 }
 
 /// The user whom a PLAIN message logs in: it has that user's name and password, and an authorization identity that is empty or
-/// the name. `None` where there is no such user.
+/// the name. `None` where there is no such user. A message that is longer than each user's is looked at no further: else the work
+/// would grow with what is sent.
+#[tactic(auto, using(crate::proofs::Longest::too_long))]
 pub(crate) fn user_of<'u>(users: &'u Users, message: &[u8]) -> Option<&'u User>
     ensures { option_map (λ u. u.now) result ≡ user_of users.now message.now }
 {
+    if longest_login(users) < message.len() {
+        return None;
+    }
     let plain = split_plain(message)?;
     if !plain.authorization.is_empty() && plain.authorization != plain.authentication {
         return None;
