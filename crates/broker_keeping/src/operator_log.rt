@@ -1,10 +1,11 @@
 //! The log for an operator: what goes into it.
 
 use crate::refused::refused_words;
+use crate::watch::is_nearly_full;
 use admission::Doorman;
-use core_reports::{Started, counts_line, counts_of, start_line, unserved_words};
+use core_reports::{LoggedRefusal, Started, counts_line, counts_of, start_line, unserved_words};
 use crossbeam_channel::Sender;
-use log_queue::{Level, LogMessage, LogWriter, Queued};
+use log_queue::{Level, LogMessage, LogWriter, Queued, SessionWords};
 use request_handlers::{Core, MOST_SEATS};
 use session_pool::{DeskLedger, EndReason, Gate, LockedDesk};
 use std::alloc::{AllocError, Global};
@@ -18,6 +19,15 @@ use wire_types::{Bytes, Text};
 
 /// How many messages wait for the writer at most.
 const WAITING: usize = 1_024;
+
+/// What is said in short of sessions whose peers nobody knows.
+const FAILS_TO_LOG_IN: &str = "fails to log in";
+
+const ASKS_TOO_EARLY: &str = "asks before its login, or out of its order";
+
+const ASKS_UNSERVED: &str = "asks what isn't served";
+
+const ENDS_UNKNOWN: &str = "ends before its login";
 
 /// After how many seconds of waiting for a worker it is logged that a connection is served.
 const LONG: u64 = 1;
@@ -33,6 +43,8 @@ pub struct OperatorLog<'r, R: Wait> {
     to: Sender<Queued>,
     /// How many lines were dropped of which the writer doesn't know.
     dropped: AtomicU64,
+    /// How many seats were given to sessions.
+    seats: AtomicU64,
     /// How many sessions were dropped since no seat was left.
     unseated: AtomicU64,
     /// How many connections were accepted for a worker.
@@ -60,6 +72,7 @@ impl<'r, R: Wait + time::Clock> OperatorLog<'r, R> {
             alloc,
             to,
             dropped: AtomicU64::new(0),
+            seats: AtomicU64::new(0),
             unseated: AtomicU64::new(0),
             taken: AtomicU64::new(0),
             begun: AtomicU64::new(0),
@@ -106,10 +119,25 @@ impl<'r, R: Wait + time::Clock> OperatorLog<'r, R> {
         }
     }
 
-    /// Logs words about a session; nothing for `None`.
-    fn info_of_session(&self, session: u64, words: Option<String>) {
+    /// Logs refusals, which the writer lays out, and neither fails nor waits for it. Where the queue is full, or the writer is
+    /// gone, they are dropped and counted.
+    pub(crate) fn tell_refusals(&self, lines: Vec<LoggedRefusal>) {
+        self.hand(LogMessage::Refusals(lines));
+    }
+
+    /// Counts lines that aren't logged, since an allocation failed for them.
+    pub(crate) fn pass_over(&self, lines: u64) {
+        self.dropped.fetch_add(lines, Ordering::SeqCst);
+    }
+
+    /// Logs words about a session, and says how they are told in short; nothing for `None`.
+    fn info_of_session(&self, session: u64, words: Option<String>, in_short: Option<&'static str>) {
         if let Some(words) = words {
-            self.hand(LogMessage::OfSession(session, words));
+            self.hand(LogMessage::OfSession(SessionWords {
+                session,
+                words,
+                in_short,
+            }));
         }
     }
 
@@ -193,10 +221,15 @@ impl<'r, R: Wait + time::Clock> OperatorLog<'r, R> {
 
     /// Logs that a session ended, whose it was (`nobody` before a login), from which host, and why.
     fn tell_end<D: Display + Drop>(&self, session: u64, host: &Text, who: Option<&Text>, why: D) {
+        let in_short = if who.is_some() {
+            None
+        } else {
+            Some(ENDS_UNKNOWN)
+        };
         let host = host.as_str();
         let who = who.map_or("nobody", |who| who.as_str());
         let words = format!(in self.alloc; "of {who} from {host}: {why}");
-        self.info_of_session(session, words.ok());
+        self.info_of_session(session, words.ok(), in_short);
     }
 
     /// Has the writer end after the messages that are queued. Where the queue is full this waits until it isn't, and where the
@@ -215,12 +248,19 @@ impl<'r, R: Wait + time::Clock> Gate for OperatorLog<'r, R> {
 
     /// Logs which api the frame asks, and which versions of the api are served.
     fn malformed(&self, session: u64, kept: &[u8]) {
-        self.info_of_session(session, unserved_words(self.alloc, kept));
+        let words = unserved_words(self.alloc, kept);
+        self.info_of_session(session, words, Some(ASKS_UNSERVED));
     }
 
     /// Logs why the session's login failed, or what it asked before the login.
     fn refused(&self, session: u64, kept: &Bytes, is_answered: bool) {
-        self.info_of_session(session, refused_words(self.alloc, kept, is_answered));
+        let in_short = if is_answered {
+            FAILS_TO_LOG_IN
+        } else {
+            ASKS_TOO_EARLY
+        };
+        let words = refused_words(self.alloc, kept, is_answered);
+        self.info_of_session(session, words, Some(in_short));
     }
 
     /// Counts the end of a session, and logs it, unless the connection was closed between two requests.
@@ -266,6 +306,18 @@ impl<'r, R: Wait + time::Clock> Doorman for OperatorLog<'r, R> {
         self.warn(format!(in self.alloc;
             "kbroker: a connection from {host} was closed at once, since its host has as many as --per-host says\n"
         ));
+    }
+
+    /// Counts a seat that is given to a session, and warns once nine tenths of all are given.
+    fn seated(&self) {
+        let before = self.seats.fetch_add(1, Ordering::SeqCst);
+        let given = before.saturating_add(1);
+        let seats = MOST_SEATS;
+        if is_nearly_full(given, seats) && !is_nearly_full(before, seats) {
+            self.warn(format!(in self.alloc;
+                "kbroker: {given} of at most {seats} sessions have asked; once all have, further ones are closed\n"
+            ));
+        }
     }
 
     /// Counts a session for which no seat was left, and warns of the first.

@@ -25,9 +25,20 @@ fn push_api_before_login(alloc: Global, words: &mut String, key: i16) -> Result<
     }
 }
 
+/// How many bytes of a name are logged, if it has no more.
+const MOST_OF_NAME: usize = 249;
+
+/// Appends a blank and the name, percent-encoded; of a name of more than 249 bytes the first 64 characters, and `..`.
+fn push_name(alloc: Global, words: &mut String, name: &str) -> Result<(), AllocError> {
+    if name.len() <= MOST_OF_NAME {
+        return push_word(words, name);
+    }
+    push_word(words, format!(in alloc; "{name:.64}..")?.as_str())
+}
+
 /// Appends why a SaslAuthenticate was refused: its message is no PLAIN message, its name is not UTF-8, or no user has its name
 /// and password, which is also said where its authzid is another name. The name is percent-encoded, and the password isn't told.
-fn push_login(words: &mut String, message: &[u8]) -> Result<(), AllocError> {
+fn push_login(alloc: Global, words: &mut String, message: &[u8]) -> Result<(), AllocError> {
     let Some(name) = name_in(message) else {
         return words.push_str("sends a login that is no PLAIN message");
     };
@@ -35,7 +46,7 @@ fn push_login(words: &mut String, message: &[u8]) -> Result<(), AllocError> {
         return words.push_str("sends a login whose name is not UTF-8");
     };
     words.push_str("logs in as")?;
-    push_word(words, name)?;
+    push_name(alloc, words, name)?;
     words.push_str(": no user has this name and password")
 }
 
@@ -48,10 +59,14 @@ fn push_refused(alloc: Global, words: &mut String, kept: &Bytes) -> Result<(), A
     match &request {
         Request::SaslHandshake(message) => {
             words.push_str("asks for the mechanism")?;
-            push_word(words, message.value().mechanism.as_str())?;
+            push_name(alloc, words, message.value().mechanism.as_str())?;
             words.push_str(", which isn't offered: PLAIN is")
         }
-        Request::SaslAuthenticate(message) => push_login(words, message.value().auth.as_slice()),
+        Request::SaslAuthenticate(message) => push_login(
+            alloc,
+            words,
+            message.value().auth.as_slice(),
+        ),
         _ => words.push_str("isn't logged in"),
     }
 }

@@ -1,2 +1,3 @@
 pub mod Counts
+pub mod Logged
 pub mod TrailDelta

@@ -3,6 +3,7 @@
 ghost use Rattle.std.specs.Prelude.{◌≡◌, ◌==◌};
 ghost use Rattle.std.specs.List.{count_by};
 
+use core_reports::LoggedRefusal;
 use std::time::SystemTime;
 
 /// How much a message matters.
@@ -24,13 +25,27 @@ impl Level {
     }
 }
 
+/// What is said of a session.
+#[derive(Drop)]
+pub struct SessionWords {
+    /// The session's number.
+    pub session: u64,
+    /// Without a line feed.
+    pub words: String,
+    /// The same in few words, for when much is said of sessions whose peers nobody knows: they choose names, and so could make
+    /// each line a new one. `None` where the words are told in any case.
+    pub in_short: Option<&'static str>,
+}
+
 /// A message in the queue of the log.
 #[derive(Drop)]
 pub enum LogMessage {
     /// Whole lines, each with its line feed.
     Lines(Level, String),
-    /// Something about the session with this number, in words without a line feed, which may be said of other sessions too.
-    OfSession(u64, String),
+    /// Refusals, which the writer lays out.
+    Refusals(Vec<LoggedRefusal>),
+    /// Something about a session, which may be said of other sessions too.
+    OfSession(SessionWords),
     /// No more messages come.
     End,
 }
@@ -50,7 +65,8 @@ impl LogMessage {
     pub fn lines(&self) -> u64 {
         match self {
             LogMessage::Lines(_, lines) => lines_in(lines.as_str()),
-            LogMessage::OfSession(_, _) => 1,
+            LogMessage::Refusals(lines) => lines.len() as u64,
+            LogMessage::OfSession(_) => 1,
             LogMessage::End => 0,
         }
     }

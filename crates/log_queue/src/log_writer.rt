@@ -3,10 +3,11 @@
 ghost use Rattle.std.specs.Prelude.{◌≡◌, IfOk, string_bytes};
 ghost use Rattle.log_queue.specs.Dropped.{dropped_line};
 
-use crate::log_message::{Level, LogMessage, Queued};
+use crate::log_message::{Level, LogMessage, Queued, SessionWords};
 use crate::repeats::{Repeated, Repeats, session_line};
 use crate::stamps::Stamp;
 use byte_streams::write_whole;
+use core_reports::{LoggedRefusal, text_of};
 use crossbeam_channel::Receiver;
 use std::alloc::{AllocError, Global};
 use std::io::Write;
@@ -30,11 +31,13 @@ pub struct LogWriter<E: Write> {
     repeats: Repeats,
 }
 
-/// The line that says how many lines were dropped, since the queue was full.
+/// The line that says how many lines were dropped, since the queue was full or an allocation failed.
 fn dropped_line(alloc: Global, count: u64) -> Result<String, AllocError>
     ensures { IfOk result (λ line. string_bytes line ≡ dropped_line count) }
 {
-    format!(in alloc; "kbroker: lines left out, since nobody read them in time: {count}\n")
+    format!(in alloc;
+        "kbroker: lines left out, since nobody read them in time or memory was short: {count}\n"
+    )
 }
 
 impl<E: Write + Drop> LogWriter<E> {
@@ -92,7 +95,8 @@ impl<E: Write + Drop> LogWriter<E> {
         self.tell_dropped(moment);
         match message {
             LogMessage::Lines(level, lines) => self.write(Stamp { moment, level }, lines.as_str()),
-            LogMessage::OfSession(session, words) => self.tell_of_session(moment, session, words),
+            LogMessage::Refusals(lines) => self.tell_refusals(moment, lines.as_slice()),
+            LogMessage::OfSession(said) => self.tell_of_session(moment, said),
             LogMessage::End => {
                 self.tell_untold(moment);
                 return false;
@@ -120,18 +124,54 @@ impl<E: Write + Drop> LogWriter<E> {
         }
     }
 
-    /// Writes what is said of a session; where the last messages about sessions say the same, counts the session, and writes of
-    /// how many only when that is due.
-    fn tell_of_session(&mut self, moment: Option<SystemTime>, session: u64, words: String) {
-        let alloc = self.alloc;
-        if let Some(repeated) = self.repeats.find(words.as_str()) {
-            if repeated.again(session) {
-                let line = repeated.take_line(alloc);
-                self.write_line(moment, Level::Info, line);
-            }
+    /// Writes a line for each refusal. Where an allocation fails for them, they count as dropped.
+    fn tell_refusals(&mut self, moment: Option<SystemTime>, lines: &[LoggedRefusal]) {
+        match text_of(self.alloc, lines) {
+            Ok(text) => self.write_line(moment, Level::Info, Some(text)),
+            Err(_) => self.dropped = self.dropped.saturating_add(lines.len() as u64),
+        }
+    }
+
+    /// Writes what is said of a session: in short, where that can be said in short and much was said of late. Where the last
+    /// messages about sessions say the same, counts the session, and writes of how many only when that is due.
+    fn tell_of_session(&mut self, moment: Option<SystemTime>, said: SessionWords) {
+        let SessionWords {
+            session,
+            words,
+            in_short,
+        } = said;
+        if self.count_again(moment, session, words.as_str()) {
             return;
         }
-        let line = session_line(alloc, session, words.as_str()).ok();
+        let words = match in_short {
+            Some(short) if !self.repeats.take_turn() => {
+                if self.count_again(moment, session, short) {
+                    return;
+                }
+                String::from_str(self.alloc, short).unwrap_or(words)
+            }
+            _ => words,
+        };
+        self.tell_first(moment, session, words);
+    }
+
+    /// Counts a session, where the last messages about sessions say the same, and writes of how many when that is due. Gives
+    /// whether they do.
+    fn count_again(&mut self, moment: Option<SystemTime>, session: u64, words: &str) -> bool {
+        let alloc = self.alloc;
+        let Some(repeated) = self.repeats.find(words) else {
+            return false;
+        };
+        if repeated.again(session) {
+            let line = repeated.take_line(alloc);
+            self.write_line(moment, Level::Info, line);
+        }
+        true
+    }
+
+    /// Writes what is said of a session, of which the last messages don't say the same.
+    fn tell_first(&mut self, moment: Option<SystemTime>, session: u64, words: String) {
+        let line = session_line(self.alloc, session, words.as_str()).ok();
         if let Some(forgotten) = self.repeats.keep(session, words) {
             self.tell_repeated(moment, forgotten);
         }
@@ -144,8 +184,10 @@ impl<E: Write + Drop> LogWriter<E> {
         self.write_line(moment, Level::Info, line);
     }
 
-    /// Writes, for each of the last messages about sessions, of how many more it was said, and forgets it.
+    /// Writes, for each of the last messages about sessions, of how many more it was said, and forgets it. From here on sessions
+    /// are written of at length again.
     fn tell_untold(&mut self, moment: Option<SystemTime>) {
+        self.repeats.start_turns();
         for _ in 0..self.repeats.len() {
             if let Some(repeated) = self.repeats.forget() {
                 self.tell_repeated(moment, repeated);

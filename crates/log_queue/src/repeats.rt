@@ -66,10 +66,15 @@ impl Repeated {
     }
 }
 
+/// So many different things are said at length of sessions whose peers nobody knows, until it was quiet again.
+const TURNS: u64 = 10;
+
 /// The last messages about sessions.
 #[derive(Drop)]
 pub(crate) struct Repeats {
     latest: HeapCircularBuffer<Repeated>,
+    /// How many more things may be said at length of sessions whose peers nobody knows.
+    turns: u64,
 }
 
 impl Repeats {
@@ -77,7 +82,20 @@ impl Repeats {
     pub(crate) fn new(alloc: Global) -> Result<Repeats, AllocError> {
         Ok(Repeats {
             latest: HeapCircularBuffer::with_capacity(alloc, RECENT)?,
+            turns: TURNS,
         })
+    }
+
+    /// Whether one more thing may be said at length of a session whose peer nobody knows: of ten of them, since `start_turns`.
+    pub(crate) fn take_turn(&mut self) -> bool {
+        let has_turn = self.turns > 0;
+        self.turns = self.turns.saturating_sub(1);
+        has_turn
+    }
+
+    /// Lets ten more things be said at length.
+    pub(crate) fn start_turns(&mut self) {
+        self.turns = TURNS;
     }
 
     /// The message in these words, if it is among the last four; else `None`.

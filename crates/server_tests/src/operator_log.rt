@@ -31,7 +31,7 @@ fn due(alloc: Global, dropped: u64, last: &str) -> Result<String, Fail> {
     for number in 0..WAITING {
         text.push_str(format!(in alloc; "line {number}\n")?.as_str())?;
     }
-    let line = "kbroker: lines left out, since nobody read them in time";
+    let line = "kbroker: lines left out, since nobody read them in time or memory was short";
     text.push_str(format!(in alloc; "{line}: {dropped}\n")?.as_str())?;
     text.push_str(last)?;
     Ok(text)
