@@ -61,10 +61,11 @@ with_serve_deadlines a =
     with_two_rules a (option_rule (codes "login-within") false)
     (option_rule (codes "frame-within") false)
 
--- those of connections that aren't counted, and of those of one host
+-- those of connections that aren't counted, and of those of one host and of one user
 abbrev pub with_serve_shares : App → App
 with_serve_shares a =
-    with_two_rules a (flag_rule (codes "endless")) (option_rule (codes "per-host") false)
+    with_rules a (flag_rule (codes "endless")) (option_rule (codes "per-host") false)
+    (option_rule (codes "per-user") false)
 
 -- those of how fast each user may ask
 abbrev pub with_serve_rates : App → App

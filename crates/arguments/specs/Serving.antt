@@ -44,6 +44,7 @@ pub record IsWithin (s : Serving) : Type 0 where
   pub workers : IsIn 64 s.workers
   pub connections : IsIn 1000000 s.connections
   pub per_host : IfSome s.per_host (IsIn 1000000)
+  pub per_user : IfSome s.per_user (IsIn 1000000)
   pub open_seconds : IfSome s.open_seconds (IsIn 1000000)
   pub idle_seconds : IfSome s.idle_seconds (IsIn 1000000)
   pub login_seconds : IsIn 1000000 s.login_seconds
@@ -91,6 +92,7 @@ pub record IsServedBy (value_of : List ℕ → Option (List ℕ)) (s : Serving) 
   pub endless : s.endless ≡ is_given (value_of (codes "endless"))
   pub uncounted : GoesUncounted s.endless (value_of (codes "connections"))
   pub per_host : TellsIfGiven (value_of (codes "per-host")) s.per_host
+  pub per_user : TellsIfGiven (value_of (codes "per-user")) s.per_user
   pub open_seconds : TellsIfGiven (value_of (codes "for")) s.open_seconds
   pub idle_seconds : TellsIfGiven (value_of (codes "idle")) s.idle_seconds
   pub login_seconds : Tells (value_of (codes "login-within")) 10 s.login_seconds

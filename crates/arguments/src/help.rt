@@ -179,12 +179,18 @@ pub(crate) const PER_HOST: &str =
     "How many connections of one host are served at once at most, 1 to 1,000,000;
 any number if it isn't given";
 
-pub(crate) const RATE: &str = "How many requests each user may send in a second, 1 to 1,000,000,000;
-above that its sessions wait before they read on; any number if it isn't given";
+pub(crate) const PER_USER: &str =
+    "How many sessions of one user are served at once at most, 1 to 1,000,000;
+a further one is closed after its login; any number if it isn't given";
+
+pub(crate) const RATE: &str =
+    "How many requests each user may send in a second, 1 to 1,000,000,000, a partition of a
+transaction like one; above that its sessions wait before they read on, and one that
+would wait for more than 10 seconds is closed; any number if it isn't given";
 
 pub(crate) const RATE_BYTES: &str =
-    "How many bytes of requests each user may send in a second, 1 to 1,000,000,000,000;
-above that its sessions wait before they read on; any number if it isn't given";
+    "How many bytes of requests and answers each user may have in a second,
+1 to 1,000,000,000,000; above that as with --rate; any number if it isn't given";
 
 pub(crate) const FOR: &str = "After how many seconds the broker stops, 1 to 1,000,000; see --grace";
 

@@ -8,6 +8,7 @@ pub(crate) enum Misused {
     Connections,
     Endless,
     PerHost,
+    PerUser,
     For,
     Idle,
     LoginWithin,
@@ -31,6 +32,7 @@ impl Misused {
                 "--endless doesn't go with --connections, which says how many are served in all"
             }
             Misused::PerHost => "--per-host takes a number from 1 to 1000000",
+            Misused::PerUser => "--per-user takes a number from 1 to 1000000",
             Misused::For => "--for takes a number of seconds from 1 to 1000000",
             Misused::Idle => "--idle takes a number of seconds from 1 to 1000000",
             Misused::LoginWithin => { "--login-within takes a number of seconds from 1 to 1000000" }

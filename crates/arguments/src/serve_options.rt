@@ -8,7 +8,8 @@ ghost use Rattle.arguments.specs.CommandLine.{flag_rule, listen_rule, option_rul
 
 use crate::help::{
     AUDIT, CONNECTIONS, CONTROL, ENDLESS, FOR, FRAME_WITHIN, GRACE, IDLE, LIBRDKAFKA, LISTEN,
-    LOG_TIMES, LOGIN_WITHIN, PER_HOST, RATE, RATE_BYTES, SETTINGS, STOP_WITH_INPUT, WORKERS,
+    LOG_TIMES, LOGIN_WITHIN, PER_HOST, PER_USER, RATE, RATE_BYTES, SETTINGS, STOP_WITH_INPUT,
+    WORKERS,
 };
 use clap::{Arg, ArgAction, Command};
 use std::alloc::{AllocError, Global};
@@ -133,7 +134,8 @@ fn with_deadlines<'a>(alloc: Global, command: Command<'a>) -> Result<Command<'a>
     with_two(command, login, frame)
 }
 
-/// Adds `--endless` and `--per-host`: whether connections are served without end, and how many one host may have at once.
+/// Adds `--endless`, `--per-host` and `--per-user`: whether connections are served without end, and how many one host and one
+/// user may have at once.
 fn with_shares<'a>(alloc: Global, command: Command<'a>) -> Result<Command<'a>, AllocError>
     ensures app { IfOk result (λ made. app_of made ≡ with_serve_shares (app_of command.entry)) }
     ensures local { IfOk result
@@ -141,7 +143,8 @@ fn with_shares<'a>(alloc: Global, command: Command<'a>) -> Result<Command<'a>, A
 {
     let endless = flag(alloc, "endless", ENDLESS);
     let per_host = option(alloc, "per-host", "N", PER_HOST, false);
-    with_two(command, endless, per_host)
+    let per_user = option(alloc, "per-user", "N", PER_USER, false);
+    with_three(command, endless, per_host, per_user)
 }
 
 /// Adds `--rate` and `--rate-bytes`: how many requests, and how many bytes of them, each user may send in a second.

@@ -31,6 +31,8 @@ pub struct Serving<'a> {
     pub endless: bool,
     /// How many of one host are served or wait at once, 1 to 1,000,000; `None` for any number.
     pub per_host: Option<u64>,
+    /// How many sessions of one user are served at once, 1 to 1,000,000; `None` for any number.
+    pub per_user: Option<u64>,
     /// For how many seconds connections are taken, 1 to 1,000,000; `None` for always.
     pub open_seconds: Option<u64>,
     /// After how many seconds of waiting for its peer a session ends, 1 to 1,000,000; `None` for never.
@@ -41,7 +43,7 @@ pub struct Serving<'a> {
     pub frame_seconds: u64,
     /// How many requests each user may send in a second, 1 to 1,000,000,000; `None` for any number.
     pub rate: Option<u64>,
-    /// How many bytes of requests each user may send in a second, 1 to 1,000,000,000,000; `None` for any number.
+    /// How many bytes of requests and answers each user may have in a second, 1 to 1,000,000,000,000; `None` for any number.
     pub rate_bytes: Option<u64>,
     /// Whether each refusal is told on standard error as it happens.
     pub audit: bool,
@@ -62,6 +64,8 @@ const MOST_WORKERS: u64 = 64;
 const MOST_CONNECTIONS: u64 = 1_000_000;
 
 const MOST_PER_HOST: u64 = 1_000_000;
+
+const MOST_PER_USER: u64 = 1_000_000;
 
 const MOST_RATE: u64 = 1_000_000_000;
 
@@ -284,6 +288,8 @@ pub(crate) fn serving_by<'a>(options: &ArgMatches<'a>) -> Result<Serving<'a>, Mi
     let connections = connections_of(options.get_str("connections"), endless)?;
     let per_host = options.get_str("per-host");
     let per_host = number_if_given(per_host, MOST_PER_HOST, Misused::PerHost)?;
+    let per_user = options.get_str("per-user");
+    let per_user = number_if_given(per_user, MOST_PER_USER, Misused::PerUser)?;
     let open_seconds = seconds_of(options.get_str("for"), Misused::For)?;
     let idle_seconds = seconds_of(options.get_str("idle"), Misused::Idle)?;
     let login = options.get_str("login-within");
@@ -305,6 +311,7 @@ pub(crate) fn serving_by<'a>(options: &ArgMatches<'a>) -> Result<Serving<'a>, Mi
         connections,
         endless,
         per_host,
+        per_user,
         open_seconds,
         idle_seconds,
         login_seconds,

@@ -88,6 +88,7 @@ fn options_of(serving: Serving<'_>, bindings: usize, log_times: bool) -> ServeOp
             frame_within: Duration::from_secs(serving.frame_seconds),
             sessions: SessionOptions {
                 listed,
+                per_user: serving.per_user,
                 rate: Rate {
                     requests: serving.rate,
                     bytes: serving.rate_bytes,

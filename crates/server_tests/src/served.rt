@@ -82,6 +82,7 @@ fn serve_two<
             frame_within: Duration::from_secs(PATIENCE),
             sessions: SessionOptions {
                 listed: ListedVersions::AsServed,
+                per_user: None,
                 rate: Rate::ANY,
             },
             patience: None,

@@ -131,6 +131,7 @@ fn serve_at<
         frame_within: Duration::from_secs(PATIENCE),
         sessions: SessionOptions {
             listed: ListedVersions::AsServed,
+            per_user: None,
             rate: Rate::ANY,
         },
         patience: None,

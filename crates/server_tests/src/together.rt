@@ -145,6 +145,7 @@ fn job_of<R: Wait + time::Clock + Copy>(
             rt,
             bytes: written.share()?,
         },
+        peer: None,
         host: Text::of(alloc, "10.0.0.5")?,
         users: users.share()?,
         limits: Limits::default(),

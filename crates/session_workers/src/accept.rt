@@ -3,7 +3,7 @@
 use crate::connections::ConnectionOptions;
 use crate::guest::{Counted, Entered, Guest, OpenConnections, Requests};
 use crate::job::Job;
-use admission::{Doorman, Hosts, host_of};
+use admission::{Doorman, Quota, host_of, network_of};
 use crossbeam_channel::Sender;
 use deadlines::Times;
 use session_pool::{Limits, ShutdownFlag, Users};
@@ -117,7 +117,7 @@ pub(crate) struct Door<'x, R, D> {
     pub(crate) users: &'x Shared<Users>,
     pub(crate) options: ConnectionOptions,
     /// The hosts of the connections that are served or wait. Where a host may have any number, they aren't counted.
-    pub(crate) hosts: &'x Mutex<Hosts>,
+    pub(crate) hosts: &'x Mutex<Quota>,
     pub(crate) open: &'x OpenConnections,
     /// Is set once no further request is read.
     pub(crate) reading: &'x ShutdownFlag,
@@ -137,6 +137,7 @@ impl<'x, R: Wait + time::Clock, D: Doorman> Door<'x, R, D> {
         stream.set_nodelay(true)?;
         let stream = Shared::new(self.alloc, stream).map_err(|_| AllocError)?;
         let entered = Entered::enter(self.rt, self.open, session, &stream)?;
+        let peer = stream.share()?;
         Ok(Job {
             session,
             reader: Requests {
@@ -148,6 +149,7 @@ impl<'x, R: Wait + time::Clock, D: Doorman> Door<'x, R, D> {
                 entered,
                 counted,
             },
+            peer: Some(peer),
             host,
             users: self.users.share()?,
             limits: Limits::default(),
@@ -162,7 +164,8 @@ impl<'x, R: Wait + time::Clock, D: Doorman> Door<'x, R, D> {
     }
 
     /// Makes a session of an accepted connection, unless its host has as many as it may: then it is turned away. The host is the
-    /// peer's address (`host_of`). The error says why the connection couldn't be accepted, or its session not be made.
+    /// peer's address (`host_of`), and of IPv6 all addresses of a network count as one (`network_of`). The error says why the
+    /// connection couldn't be accepted, or its session not be made.
     fn take(
         &self,
         session: u64,
@@ -172,10 +175,13 @@ impl<'x, R: Wait + time::Clock, D: Doorman> Door<'x, R, D> {
         let host = host_of(self.alloc, peer.ip())?;
         let counted = match self.options.per_host {
             None => None,
-            Some(_) => match Counted::enter(self.rt, self.alloc, self.hosts, &host)? {
-                Some(counted) => Some(counted),
-                None => return Ok(Taken::TurnedAway(host)),
-            },
+            Some(_) => {
+                let network = network_of(self.alloc, peer.ip())?;
+                match Counted::enter(self.rt, self.alloc, self.hosts, &network)? {
+                    Some(counted) => Some(counted),
+                    None => return Ok(Taken::TurnedAway(host)),
+                }
+            }
         };
         Ok(Taken::Session(self.job_of(session, stream, host, counted)?))
     }

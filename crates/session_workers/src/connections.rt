@@ -8,7 +8,7 @@ use crate::guest::OpenConnections;
 use crate::patience::Patient;
 use crate::sessions::Ended;
 use crate::workers::{PoolFault, ServerContext, SessionOptions, serve_all};
-use admission::{Doorman, Hosts};
+use admission::{Doorman, Quota};
 use session_pool::{DeskLedger, Gate, LockedDesk, ShutdownFlag, Steps, Users};
 use std::alloc::Global;
 use std::net::{Net, TcpListener, TcpStream};
@@ -27,7 +27,8 @@ pub struct ConnectionOptions {
     pub connections: u64,
     /// Whether connections are served without end, and not counted.
     pub endless: bool,
-    /// So many connections of one host are served or wait for a worker at once; `None` for any number.
+    /// So many connections of one host, or of one network of IPv6 (`network_of`), are served or wait for a worker at once; `None`
+    /// for any number.
     pub per_host: Option<u64>,
     /// For so long connections are taken; `None` for always.
     pub open: Option<Duration>,
@@ -134,7 +135,7 @@ pub fn serve_connections<
         users,
         options,
     } = service;
-    let hosts = Mutex::new(Hosts::new(alloc, options.per_host.unwrap_or(0)));
+    let hosts = Mutex::new(Quota::new(alloc, options.per_host.unwrap_or(0)));
     let open = OpenConnections::new(alloc);
     let reading = ShutdownFlag::new();
     let door = Door {

@@ -1,35 +1,54 @@
 //! Connections that are counted, and that can be ended, as long as they are open.
 
-use admission::Hosts;
+use admission::Quota;
 use session_pool::ShutdownFlag;
 use std::alloc::{AllocError, Global};
 use std::io;
-use std::io::{Read, Write};
+use std::io::{ErrorKind, Read, Write};
 use std::net::{OpenStream, Shutdown, TcpStream};
 use std::sync::{Mutex, Wait};
 use std::time::Duration;
 use wire_types::{Shared, Text};
 
-/// A connection that counts among those of its host, until this is dropped.
+/// Whether a connection's peer is gone, so that nothing that it hasn't sent yet will come: it is closed from there, and all that
+/// came was read, or it is broken. It doesn't wait.
+pub(crate) fn is_gone(stream: &TcpStream) -> bool {
+    if matches!(stream.take_error(), Ok(Some(_)) | Err(_)) {
+        return true;
+    }
+    if stream.set_nonblocking(true).is_err() {
+        return true;
+    }
+    let seen = stream.peek(&mut [0]);
+    if stream.set_nonblocking(false).is_err() {
+        return true;
+    }
+    match seen {
+        Ok(count) => count == 0,
+        Err(error) => error.kind() != ErrorKind::WouldBlock,
+    }
+}
+
+/// One that counts among those of a holder, until this is dropped: a connection of its host, or a session of its user.
 pub(crate) struct Counted<'x, R: Wait> {
     rt: &'x R,
-    hosts: &'x Mutex<Hosts>,
-    host: Text,
+    quota: &'x Mutex<Quota>,
+    holder: Text,
 }
 
 impl<'x, R: Wait> Counted<'x, R> {
-    /// Counts one connection more of a host, until the result is dropped; `None` where the host has as many as it may. The error
-    /// is an allocation failure, which counts nothing.
+    /// Counts one more of a holder, until the result is dropped; `None` where the holder has as many as it may. The error is an
+    /// allocation failure, which counts nothing.
     pub(crate) fn enter(
         rt: &'x R,
         alloc: Global,
-        hosts: &'x Mutex<Hosts>,
-        host: &Text,
+        quota: &'x Mutex<Quota>,
+        holder: &Text,
     ) -> Result<Option<Counted<'x, R>>, AllocError> {
-        let host = host.clone()?;
-        let entered = hosts.lock(rt).enter(alloc, &host)?;
+        let holder = holder.clone()?;
+        let entered = quota.lock(rt).enter(alloc, &holder)?;
         if entered {
-            Ok(Some(Counted { rt, hosts, host }))
+            Ok(Some(Counted { rt, quota, holder }))
         } else {
             Ok(None)
         }
@@ -37,10 +56,10 @@ impl<'x, R: Wait> Counted<'x, R> {
 }
 
 impl<'x, R: Wait> Drop for Counted<'x, R> {
-    /// Counts one connection less of the host.
+    /// Counts one less of the holder.
     fn drop(self) {
-        let Counted { rt, hosts, host } = self;
-        hosts.lock(rt).leave(&host);
+        let Counted { rt, quota, holder } = self;
+        quota.lock(rt).leave(&holder);
     }
 }
 

@@ -6,6 +6,7 @@ ghost use Rattle.msg_admin.specs.declared.request.TheConstants.{FRAME_LIMIT as L
 use crate::pacing::Pacing;
 use crate::sessions::{Done, Unused};
 use crate::times::Noting;
+use admission::Quota;
 use deadlines::{Notes, Timed, TimedWriter, Times};
 use session_pool::{
     DeskLedger, Gate, Limits, ListedVersions, LockedDesk, LoginContext, SessionContext, Users,
@@ -13,8 +14,8 @@ use session_pool::{
 };
 use std::alloc::Global;
 use std::io::{Read, Write};
-use std::net::OpenStream;
-use std::sync::Wait;
+use std::net::{OpenStream, TcpStream};
+use std::sync::{Mutex, Wait};
 use std::time;
 use std::time::{Duration, Instant};
 use wire_types::{Shared, Text};
@@ -26,6 +27,8 @@ pub struct Job<Rd, Wr> {
     pub session: u64,
     pub reader: Rd,
     pub writer: Wr,
+    /// Its connection, if it has one: by it is seen whether the peer of a session that is made to wait is still there.
+    pub peer: Option<Shared<TcpStream>>,
     pub host: Text,
     pub users: Shared<Users>,
     pub limits: Limits,
@@ -44,8 +47,8 @@ pub(crate) fn waited<T: time::Clock>(rt: &T, taken: Option<Instant>) -> Duration
     taken.elapsed(rt).unwrap_or(Duration::ZERO)
 }
 
-/// What all workers share: how versions are listed before a login, the desk, the gate and the doorman, and what makes users wait
-/// that ask too fast.
+/// What all workers share: how versions are listed before a login, the desk, the gate and the doorman, what makes users wait that
+/// ask too fast, and how many sessions each has.
 #[derive(Drop)]
 pub(crate) struct WorkerContext<'x, 'r, L: DeskLedger, R: Wait, G, D, T> {
     pub(crate) rt: &'x T,
@@ -55,6 +58,8 @@ pub(crate) struct WorkerContext<'x, 'r, L: DeskLedger, R: Wait, G, D, T> {
     pub(crate) gate: &'x G,
     pub(crate) doorman: &'x D,
     pub(crate) pacing: &'x Pacing<'r, T>,
+    /// How many sessions each user has; `None` where a user may have any number.
+    pub(crate) users: Option<&'x Mutex<Quota>>,
 }
 
 impl<'x, 'r, L: DeskLedger, R: Wait, G: Gate, D, T: Wait + time::Clock> WorkerContext<
@@ -77,6 +82,7 @@ impl<'x, 'r, L: DeskLedger, R: Wait, G: Gate, D, T: Wait + time::Clock> WorkerCo
             session,
             reader,
             writer,
+            peer,
             host,
             users,
             limits,
@@ -87,7 +93,8 @@ impl<'x, 'r, L: DeskLedger, R: Wait, G: Gate, D, T: Wait + time::Clock> WorkerCo
         let notes = Notes::new();
         let reader = Timed::new(self.rt, reader, times, &notes);
         let mut writer = TimedWriter::new(self.rt, writer, times, &notes);
-        let noting = Noting::new(self.gate, &notes, self.pacing);
+        let peer = peer.as_ref().map(|peer| peer.value());
+        let noting = Noting::new(self, &notes, peer);
         let context = SessionContext {
             session,
             login: LoginContext {

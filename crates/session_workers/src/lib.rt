@@ -13,6 +13,7 @@ mod connections;
 mod guest;
 mod job;
 mod keeper;
+mod markers;
 mod pacing;
 mod patience;
 mod sessions;

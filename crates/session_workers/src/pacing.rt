@@ -1,15 +1,22 @@
 //! Users that ask faster than they may.
 
-use admission::{Pace, Rate};
+use crate::guest::is_gone;
+use admission::{Load, Pace, Rate};
 use session_pool::ShutdownFlag;
 use std::alloc::Global;
+use std::net::TcpStream;
 use std::sync::{Mutex, Wait};
 use std::time::{Duration, Instant};
 use std::{thread, time};
 use wire_types::Text;
 
-/// How long a user that waits sleeps at most, before it is looked whether further requests are read; in nanoseconds.
+/// How long a user that waits sleeps at most, before it is looked whether its peer is still there and further requests are read;
+/// in nanoseconds.
 const NAP: u64 = 100_000_000;
+
+/// For how many nanoseconds a session is made to wait at most. Meanwhile it holds a worker, so one that would wait for longer is
+/// let go.
+const LONGEST: u64 = 10_000_000_000;
 
 /// Makes users wait that ask faster than they may, in all their sessions together, as long as further requests are read.
 #[derive(Drop)]
@@ -53,10 +60,15 @@ impl<'r, R: Wait + time::Clock> Pacing<'r, R> {
         u64::try_from(passed.as_nanos()).ok()
     }
 
-    /// Sleeps for so many nanoseconds, or until no further request is read, which is looked at every 100 milliseconds.
-    fn sleep(&self, time: u64) {
+    /// Whether a wait is over before its time: no further request is read, or the peer is gone.
+    fn is_cut(&self, peer: Option<&TcpStream>) -> bool {
+        self.reading.is_closed() || peer.is_some_and(is_gone)
+    }
+
+    /// Sleeps for so many nanoseconds, or until the wait is cut, which is looked at every 100 milliseconds.
+    fn sleep(&self, time: u64, peer: Option<&TcpStream>) {
         for _ in 0..time / NAP {
-            if self.reading.is_closed() {
+            if self.is_cut(peer) {
                 return;
             }
             thread::sleep(self.rt, Duration::from_nanos(NAP));
@@ -64,15 +76,22 @@ impl<'r, R: Wait + time::Clock> Pacing<'r, R> {
         thread::sleep(self.rt, Duration::from_nanos(time % NAP));
     }
 
-    /// Charges a user for a request of so many bytes, and returns once it may ask again, or no further request is read. It
-    /// returns at once, and charges nothing, where there is no rate, the clock can't be read, or an allocation fails.
-    pub(crate) fn pause(&self, user: &Text, bytes: u64) {
+    /// Charges a user for a request, and returns once it may ask again, no further request is read, or its peer is gone. Gives
+    /// whether the session goes on: it doesn't where the user would have to wait for more than ten seconds, and then it isn't
+    /// made to. It goes on at once, and nothing is charged, where there is no rate, the clock can't be read, or an allocation
+    /// fails.
+    pub(crate) fn pause(&self, user: &Text, load: Load, peer: Option<&TcpStream>) -> bool {
         let Some(now) = self.now() else {
-            return;
+            return true;
         };
-        let wait = self.pace.lock(self.rt).charge(self.alloc, user, now, bytes);
-        if let Ok(wait) = wait {
-            self.sleep(wait);
+        let charged = self.pace.lock(self.rt).charge(self.alloc, user, now, load);
+        let Ok(wait) = charged else {
+            return true;
+        };
+        if LONGEST < wait {
+            return false;
         }
+        self.sleep(wait, peer);
+        true
     }
 }

@@ -1,39 +1,87 @@
-//! A session's gate: it notes that the user is known, makes the session wait, and says that the peer took too long.
+//! A session's gate: it notes that the user is known, makes the session wait or ends it, and says that the peer took too long.
 
+use crate::guest::Counted;
+use crate::job::WorkerContext;
+use crate::markers::markers_of;
 use crate::pacing::Pacing;
+use admission::{Load, Quota};
 use deadlines::{Limit, Notes, Times};
 use request_handlers::Receipt;
-use session_pool::{EndReason, Gate, SessionEnd};
+use session_pool::{DeskLedger, EndReason, Gate, SessionEnd};
 use std::alloc::Global;
-use std::cell::OnceCell;
+use std::cell::{Cell, OnceCell};
+use std::net::TcpStream;
 use std::str::from_utf8;
-use std::sync::Wait;
+use std::sync::{Mutex, Wait};
 use std::time;
 use std::time::Duration;
 use wire_types::{Bytes, Text};
 
-/// The gate of one session: notes that its user is known and who that is, makes it wait after a frame where that user asks faster
-/// than it may, and leaves all else to the gate of all sessions.
+/// Why the server ends a session whose user is known.
+#[derive(Clone, Copy, Debug, PartialEq, Eq)]
+enum Closing {
+    /// The user has as many sessions as it may.
+    UserIsFull,
+    /// The user asked so fast that the session would have to wait for more than ten seconds.
+    TooFast,
+    /// An allocation failed, by which the user's sessions are counted.
+    NoMemory,
+}
+
+impl Closing {
+    /// What an operator is told.
+    fn words(self) -> &'static str {
+        match self {
+            Closing::UserIsFull => "its user has as many sessions as --per-user says",
+            Closing::TooFast => {
+                "its user asked so fast that it would have to wait for more than 10 seconds; see --rate and --rate-bytes"
+            }
+            Closing::NoMemory => "there is not enough memory to count its user's sessions",
+        }
+    }
+}
+
+/// The gate of one session: notes that its user is known and who that is, ends it where that user has too many sessions or asks
+/// much too fast, makes it wait after a frame where the user asks faster than it may, and leaves all else to the gate of all
+/// sessions.
 #[derive(Drop)]
-pub(crate) struct Noting<'x, 'r, G, R> {
+pub(crate) struct Noting<'x, 'r, G, R: Wait> {
+    rt: &'x R,
+    alloc: Global,
     gate: &'x G,
     notes: &'x Notes,
     pacing: &'x Pacing<'r, R>,
+    /// How many sessions each user has; `None` where a user may have any number.
+    users: Option<&'x Mutex<Quota>>,
+    /// The session's connection, if it has one.
+    peer: Option<&'x TcpStream>,
     who: OnceCell<Text>,
+    /// The session among those of its user.
+    counted: OnceCell<Counted<'x, R>>,
+    /// How many markers the session's last request comes to.
+    markers: Cell<u64>,
+    closing: Cell<Option<Closing>>,
 }
 
-impl<'x, 'r, G, R> Noting<'x, 'r, G, R> {
-    /// The gate of a session whose user isn't known yet.
-    pub(crate) fn new(
-        gate: &'x G,
+impl<'x, 'r, G, R: Wait> Noting<'x, 'r, G, R> {
+    /// The gate of a session over this connection, whose user isn't known yet.
+    pub(crate) fn new<L: DeskLedger, W: Wait, D>(
+        context: &WorkerContext<'x, 'r, L, W, G, D, R>,
         notes: &'x Notes,
-        pacing: &'x Pacing<'r, R>,
+        peer: Option<&'x TcpStream>,
     ) -> Noting<'x, 'r, G, R> {
         Noting {
-            gate,
+            rt: context.rt,
+            alloc: context.alloc,
+            gate: context.gate,
             notes,
-            pacing,
+            pacing: context.pacing,
+            users: context.users,
+            peer,
             who: OnceCell::new(),
+            counted: OnceCell::new(),
+            markers: Cell::new(0),
+            closing: Cell::new(None),
         }
     }
 
@@ -41,9 +89,39 @@ impl<'x, 'r, G, R> Noting<'x, 'r, G, R> {
     pub(crate) fn who(&self) -> Option<&Text> {
         self.who.get()
     }
+
+    /// Ends the session before its next frame.
+    fn close(&self, why: Closing) {
+        self.closing.set(Some(why));
+        self.notes.close();
+    }
+
+    /// Counts the session among those of its user, where these are counted; ends it, where the user has as many as it may.
+    fn enter(&self, who: &Text) {
+        let Some(users) = self.users else {
+            return;
+        };
+        match Counted::enter(self.rt, self.alloc, users, who) {
+            Ok(Some(counted)) => {
+                let _another = self.counted.set(counted);
+            }
+            Ok(None) => self.close(Closing::UserIsFull),
+            Err(_) => self.close(Closing::NoMemory),
+        }
+    }
+
+    /// What the session's last request is charged for, which is noted no longer.
+    fn take_load(&self) -> Load {
+        let markers = self.markers.get();
+        self.markers.set(0);
+        Load {
+            events: markers.saturating_add(1),
+            bytes: self.notes.take_passed(),
+        }
+    }
 }
 
-impl<'x, 'r, G: Gate, R> Noting<'x, 'r, G, R> {
+impl<'x, 'r, G: Gate, R: Wait> Noting<'x, 'r, G, R> {
     /// Tells the gate of all sessions that the session has ended, and why; in words, by `ended_as`, where more is known of the
     /// reason than `end.why`.
     pub(crate) fn tell_end<S>(
@@ -55,6 +133,11 @@ impl<'x, 'r, G: Gate, R> Noting<'x, 'r, G, R> {
         end: &SessionEnd<S>,
     ) {
         let who = self.who();
+        if let Some(closing) = self.closing.get() {
+            return self
+                .gate
+                .ended_as(session, host, who, end.why, closing.words());
+        }
         match words_of_end(alloc, end.why, times, self.notes) {
             Some(words) => self
                 .gate
@@ -70,28 +153,33 @@ impl<'x, 'r, G: Gate, R: Wait + time::Clock> Gate for Noting<'x, 'r, G, R> {
         self.gate.before(session, frame);
     }
 
-    /// Tells the gate of all sessions of an event's receipt.
+    /// Notes to how many markers the event comes, and tells the gate of all sessions of its receipt.
     fn answered(&self, receipt: &Receipt) {
+        self.markers.set(markers_of(receipt));
         self.gate.answered(receipt);
     }
 
-    /// Notes that the user is known, and who it is, and tells the gate of all sessions. Where an allocation fails for the name,
-    /// the session is never made to wait.
+    /// Notes that the user is known, and who it is, counts the session among those of its user, and tells the gate of all
+    /// sessions. Where an allocation fails for the name, the session is never made to wait.
     fn logged_in(&self, session: u64, who: &Text) {
         self.notes.log_in();
         if let Ok(who) = who.clone() {
             let _another = self.who.set(who);
         }
+        self.enter(who);
         self.gate.logged_in(session, who);
     }
 
-    /// Tells the gate of all sessions. Then, where a user is known, charges it for one request, of as many bytes as were read
-    /// since the last call, also where no frame came; and waits where it asks faster than it may.
+    /// Tells the gate of all sessions. Then, where a user is known, charges it for one request and the markers that it comes to,
+    /// and for as many bytes as were read and written since the last call, also where no frame came; waits where it asks faster
+    /// than it may, and ends the session where it does so by far.
     fn after(&self, session: u64, frame: u64) {
         self.gate.after(session, frame);
-        let bytes = self.notes.take_read();
-        if let Some(who) = self.who() {
-            self.pacing.pause(who, bytes);
+        let load = self.take_load();
+        if let (Some(who), None) = (self.who(), self.closing.get()) {
+            if !self.pacing.pause(who, load, self.peer) {
+                self.close(Closing::TooFast);
+            }
         }
     }
 

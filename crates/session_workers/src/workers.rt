@@ -9,15 +9,15 @@ use crate::job::{Job, WorkerContext, waited};
 use crate::keeper::keep;
 use crate::pacing::Pacing;
 use crate::sessions::{Ended, Sessions, Unused};
-use admission::{Doorman, Rate};
+use admission::{Doorman, Quota, Rate};
 use crossbeam_channel::Receiver;
 use request_handlers::Seat;
 use session_pool::{DeskLedger, Gate, ListedVersions, LockedDesk, ShutdownFlag, Steps};
 use std::alloc::{AllocError, Global};
 use std::io::{Read, Write};
 use std::net::OpenStream;
-use std::sync::Wait;
 use std::sync::atomic::{AtomicU64, Ordering};
+use std::sync::{Mutex, Wait};
 use std::thread::{JoinHandle, Threads};
 use std::{thread, time};
 use thiserror::Error;
@@ -54,6 +54,8 @@ impl PoolFault {
 pub struct SessionOptions {
     /// How the versions that are served are listed before a login.
     pub listed: ListedVersions,
+    /// So many sessions of one user are served at once; `None` for any number. A further one ends after its login.
+    pub per_user: Option<u64>,
     /// How fast each user may ask.
     pub rate: Rate,
 }
@@ -95,8 +97,12 @@ fn work<
             break;
         };
         doorman.begun(&job.host, waited(rt, job.taken));
+        let is_back = back.is_some();
         match seat_of(context.desk, back) {
             Some(seat) => {
+                if !is_back {
+                    doorman.seated();
+                }
                 let done = context.serve(seat, job);
                 (sessions, back) = sessions.add(done)?;
             }
@@ -245,8 +251,13 @@ pub fn serve_all<
 ) -> Result<Ended<L>, PoolFault>
     ensures { IfOk result (λ ended. AreEnds (IsOfSteps K.gives K.told K.halts (K.state steps)) ended.ends.items) }
 {
-    let SessionOptions { listed, rate } = server.options;
+    let SessionOptions {
+        listed,
+        per_user,
+        rate,
+    } = server.options;
     let running = AtomicU64::new(0);
+    let users = Mutex::new(Quota::new(alloc, per_user.unwrap_or(0)));
     let pacing = Pacing::new(rt, alloc, rate, server.reading);
     let context = WorkerContext {
         rt,
@@ -256,6 +267,7 @@ pub fn serve_all<
         gate: server.gate,
         doorman: server.doorman,
         pacing: &pacing,
+        users: per_user.map(|_| &users),
     };
     serve_lent(&context, &jobs, &running, workers, steps)
 }
