@@ -29,7 +29,7 @@ IDLE = 5  # seconds after which a silent peer is closed
 EARLY, LATE = 0.05, 3.5  # seconds before and after its time in which something may come
 
 # What is told of lines for which there was no room.
-LEFT_OUT = re.compile(r"kbroker: lines left out, since nobody read them in time: (\d+)")
+LEFT_OUT = re.compile(r"kbroker: lines left out, since nobody read them in time or memory was short: (\d+)")
 
 # The words after `serve` that are not understood.
 MISUSED = (
