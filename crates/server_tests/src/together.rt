@@ -203,6 +203,7 @@ fn serve_both<L: DeskLedger + Send + Sync, R: Threads + Wait + time::Clock + Cop
     let server = ServerContext {
         options: SessionOptions {
             listed: ListedVersions::AsServed,
+            per_user: None,
             rate: Rate::ANY,
         },
         desk,
