@@ -24,8 +24,10 @@ RATE = 40  # requests a second
 ASKED = 60  # requests of each of a user's two sessions
 NAMES = ["n" * 1_000] * 30  # of topics, in a request of 30,093 bytes, whose answer has as many
 RATE_BYTES = 7_500  # bytes a second
+FOR_NINE = 6_200  # bytes a second, by which that request is waited for nine seconds
 MUCH_LESS = 2_500  # bytes a second, by which that request costs 24 seconds
 QUICK = 4.0  # seconds: so long nobody waits who needn't
+SOON = 2.5  # seconds in which a worker is given back, and a client logs in
 TOO_FAST = "its user asked so fast that it would have to wait for more than 10 seconds; see --rate and --rate-bytes"
 LATE = 20.0  # seconds in which all are served whom a rate holds up for some
 
@@ -133,7 +135,7 @@ class Rates(unittest.TestCase):
         """A session that has to wait gives its worker back as its peer leaves, whether it says so or is just gone."""
         for resets in (False, True):
             with self.subTest(resets=resets):
-                with ClockedKbroker(SETTINGS, workers=1, connections=2, more=("--rate-bytes", str(RATE_BYTES))) as server:
+                with ClockedKbroker(SETTINGS, workers=1, connections=2, more=("--rate-bytes", str(FOR_NINE))) as server:
                     with logged_in(server.address, "ann", "pw") as broker:
                         self.assertEqual(len(broker.ask("Metadata", topics=NAMES)["topics"]), len(NAMES))
                         if resets:
@@ -141,7 +143,7 @@ class Rates(unittest.TestCase):
                     began = time.monotonic()
                     with logged_in(server.address) as other:
                         other.ask("Metadata", topics=["b"])
-                        self.assertLess(time.monotonic() - began, QUICK, "the worker isn't given back")
+                        self.assertLess(time.monotonic() - began, SOON, "the worker isn't given back")
                     server.settled()
 
     def test_no_rate(self):
