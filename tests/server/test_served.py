@@ -29,6 +29,7 @@ IDLE = 5  # seconds after which a silent peer is closed
 EARLY, LATE = 0.05, 3.5  # seconds before and after its time in which something may come
 
 # What is told of lines for which there was no room.
+IN_SHORT = "asks before its login, or out of its order"
 LEFT_OUT = re.compile(r"kbroker: lines left out, since nobody read them in time or memory was short: (\d+)")
 
 # The words after `serve` that are not understood.
@@ -419,15 +420,16 @@ class Operators(ServedCase):
         left_out = [int(found[1]) for found in map(LEFT_OUT.fullmatch, told) if found]
         lines = [line for line in told if not LEFT_OUT.fullmatch(line)]
         asks = [asked(2 + number, f"asks api {1_000 + number} before its login") for number in range(strangers)]
-        heard = [line for line in lines if "asks api" in line]
-        self.assertEqual(heard, asks[: len(heard)])
-        ends = {text: count for text, count in counted(lines).items() if "asks api" not in text}
-        self.assertEqual([*ends], [text_of(of_nobody(2, NO_LOGIN))])
-        self.assertIn(len(heard) - sum(ends.values()), (0, 1))
+        named = [line for line in lines if "asks api" in line]
+        self.assertEqual(named, asks[: len(named)])
+        counts = {text: count for text, count in counted(lines).items() if "asks api" not in text}
+        self.assertEqual({*counts}, {text_of(of_nobody(2, NO_LOGIN)), IN_SHORT})
+        heard, ends = len(named) + counts[IN_SHORT], counts[text_of(of_nobody(2, NO_LOGIN))]
+        self.assertIn(heard - ends, (0, 1))
         self.assertTrue(left_out)
         # (the lines that no more connections are taken, and how much was asked, may be left out too)
-        missing = 2 * strangers + refused - len(heard) - sum(ends.values())
-        self.assertIn(sum(left_out) - missing, (0, 1, 2), (len(heard), ends, left_out))
+        missing = 2 * strangers + refused - heard - ends
+        self.assertIn(sum(left_out) - missing, (0, 1, 2), (heard, ends, left_out))
 
     def test_a_full_trail_is_told(self):
         """Where the trail is full the operator is told once that the clock stops, and each session ends at its next request."""

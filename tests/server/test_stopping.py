@@ -199,8 +199,8 @@ class Inputs(StoppingCase):
         self.assertEqual(sorted(it for it in told if it not in FAILED), [CLOSED.format(number, 1) for number in (1, 2)])
 
     def test_a_user_that_has_to_wait(self):
-        """It waits for a minute since its login, and is closed without an answer."""
-        with Stopped(SETTINGS, more=("--rate-bytes", "1")) as broker, logged_in(broker.address) as client:
+        """It waits for some seconds since its login, and is closed without an answer."""
+        with Stopped(SETTINGS, more=("--rate-bytes", "10")) as broker, logged_in(broker.address) as client:
             client.send("Metadata", topics=None)
             time.sleep(STARTED_WITHIN)
             settled, told = self.assert_stops(broker, 0)

@@ -34,7 +34,7 @@ pub struct Job<Rd, Wr> {
     pub limits: Limits,
     pub times: Times,
     /// When its connection was accepted; `None` where the clock couldn't be read. The wait for a worker since then is taken off
-    /// the time for a first frame (`Times::after`).
+    /// the times for a first frame and for a login (`Times::after`).
     pub taken: Option<Instant>,
     pub ghost within: { limits.frame ≤ LIMIT },
 }
@@ -89,10 +89,10 @@ impl<'x, 'r, L: DeskLedger, R: Wait, G: Gate, D, T: Wait + time::Clock> WorkerCo
             times,
             taken,
         } = job;
-        let times = times.after(waited(self.rt, taken));
+        let left = times.after(waited(self.rt, taken));
         let notes = Notes::new();
-        let reader = Timed::new(self.rt, reader, times, &notes);
-        let mut writer = TimedWriter::new(self.rt, writer, times, &notes);
+        let reader = Timed::new(self.rt, reader, left, &notes);
+        let mut writer = TimedWriter::new(self.rt, writer, left, &notes);
         let peer = peer.as_ref().map(|peer| peer.value());
         let noting = Noting::new(self, &notes, peer);
         let context = SessionContext {
