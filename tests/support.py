@@ -1,4 +1,4 @@
-"""What several tests share: the program, settings, connections that say nothing yet, and waits."""
+"""What several tests share: the program, settings, and connections that say nothing yet."""
 
 import os
 import socket
@@ -6,7 +6,6 @@ import struct
 import subprocess
 import sys
 import tempfile
-import time
 import unittest
 from pathlib import Path
 
@@ -26,7 +25,7 @@ RUN_BY = os.environ.get("KBROKER_RUN")
 # keys everybody knows.
 COLLIDING = "2iebam06274dwt247n1-OgrT"
 LONGEST_FRAME = 104_857_600
-PATIENCE = 10  # seconds that a wait lasts at most
+PATIENCE = 10  # seconds that a connection is waited for
 
 # ---- what can't be run everywhere
 
@@ -133,7 +132,7 @@ def peak_of(script, program=PROGRAM):
     return peak * 1024
 
 
-# ---- connections and waits
+# ---- connections
 
 
 def free_address():
@@ -157,16 +156,3 @@ def is_read(peer):
         queues = {(row[1], row[2]): row[4].split(":") for row in map(str.split, table)}
     unacknowledged, unread = queues.get((here, there), "?")[0], queues.get((there, here), "??")[1]
     return unacknowledged == unread == "00000000"
-
-
-class TooLate(Exception):
-    """What was waited for didn't come in time."""
-
-
-def wait_until(holds, otherwise):
-    """Waits until something holds."""
-    end = time.monotonic() + PATIENCE
-    while not holds():
-        if time.monotonic() > end:
-            raise TooLate(otherwise)
-        time.sleep(0.01)

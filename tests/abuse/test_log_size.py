@@ -14,9 +14,10 @@ import unittest
 from kbroker_testing.broker import ClockedKbroker
 from kbroker_testing.codes import Code
 from kbroker_testing.protocol import Connection, batch, in_partition, logged_in, partition_of, request_frame, response_of
+from kbroker_testing.waiting import wait_until
 from tests.abuse.beside import ask_whole
 from tests.server.told import counted
-from tests.support import OF_ROOT, needs_proved_program, topic, user, wait_until
+from tests.support import OF_ROOT, needs_proved_program, topic, user
 
 GROUP = "\1" * 32_767  # of which each character is three in a line
 PARTS = 3_000
@@ -85,7 +86,7 @@ class LogSize(unittest.TestCase):
                         self.refuse(other)
                     began = time.monotonic()
                     self.assertEqual(broker.ask("EndTxn", committed=True, **who)["error"], Code.NONE)
-                    wait_until(lambda: self.is_complete(broker), "the commit isn't completed")
+                    wait_until(lambda: self.is_complete(broker), otherwise="the commit isn't completed")
                     took.append(time.monotonic() - began)
         return statistics.median(took)
 

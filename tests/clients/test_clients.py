@@ -16,7 +16,7 @@ import packages
 from kbroker_testing.broker import ClockedKbroker, Kbroker
 from packages import OF_THE_SYSTEM
 from program import ROOT
-from tests.support import TooLate, acl, topic, user, without_package
+from tests.support import acl, topic, user, without_package
 
 try:
     import confluent_kafka as kafka
@@ -183,7 +183,7 @@ def polled(consumer, count):
     found, until = [], time.monotonic() + WAIT
     while len(found) < count:
         if time.monotonic() > until:
-            raise TooLate(f"{len(found)} of {count} messages came")
+            raise TimeoutError(f"{len(found)} of {count} messages came")
         message = consumer.poll(0.2)
         if message is not None:
             if message.error():

@@ -4,11 +4,12 @@ stand there, and print what stands there."""
 import sys
 import unittest
 
+from kbroker_testing.waiting import wait_until
 from packages import OF_THE_SYSTEM
 from program import ROOT
 from tests.clients.test_clients import has_kafka, needs_kcat
 from tests.pages import FIRST, Room, assert_prints, assert_steps, blocks_of, serving, steps_of
-from tests.support import wait_until, without_package
+from tests.support import without_package
 
 
 def interpreter_with_kafka(case):
@@ -31,7 +32,7 @@ class WithKcat(unittest.TestCase):
         with serving() as broker, Room(broker.address) as room:
             assert_steps(self, room, steps_of(block))
             assert_prints(self, room, code, interpreter)
-            wait_until(broker.told, "the refusal is not told")
+            wait_until(broker.told, otherwise="the refusal is not told")
             self.assertEqual(broker.told(), [it for it in audit if " orders " in it])
 
     def test_kcat(self):

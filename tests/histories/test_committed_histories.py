@@ -18,9 +18,10 @@ import unittest
 from kbroker_testing.broker import ClockedKbroker
 from kbroker_testing.codes import Code
 from kbroker_testing.protocol import Batch, batches_of, in_partition, logged_in, partition_of
+from kbroker_testing.waiting import wait_until
 from tests.histories import checked
 from tests.histories.clients import ABORTED, COMMITTED, LONG, PARTS, UNKNOWN, Consumer, IdempotentProducer, Transaction, TransactionalProducer
-from tests.support import OF_ROOT, topic, wait_until
+from tests.support import OF_ROOT, topic
 
 SECONDS = float(os.environ.get("KBROKER_HISTORY_SECONDS", "20"))
 SEED = os.environ.get("KBROKER_HISTORY_SEED")
@@ -38,7 +39,7 @@ def end_all(broker, names):
             told = broker.ask("InitProducerId", transactional_id=name, timeout=LONG)["error"]
             return told != Code.CONCURRENT_TRANSACTIONS
 
-        wait_until(is_ended, f"a transaction of {name} stays open")
+        wait_until(is_ended, otherwise=f"a transaction of {name} stays open")
 
 
 def log_of(broker, part):

@@ -4,9 +4,9 @@ recipes of docs/TESTING_WITH_KBROKER.md, and what docs/USING.md shows without a 
 import sys
 import unittest
 
+from kbroker_testing.waiting import wait_until
 from program import ROOT
 from tests.pages import ADDRESS, FIRST, OWN_TEST, Room, assert_prints, assert_steps, blocks_of, serving, steps_of
-from tests.support import wait_until
 
 RECIPES = 6
 WITHOUT_A_BROKER = 2  # blocks of docs/USING.md
@@ -19,7 +19,7 @@ class Pages(unittest.TestCase):
         [audit] = [it.splitlines() for it in blocks_of(FIRST) if it.startswith("unmatched")]
         with serving() as broker, Room(broker.address) as room:
             assert_steps(self, room, steps_of(block))
-            wait_until(broker.told, "the refusal is not told")
+            wait_until(broker.told, otherwise="the refusal is not told")
             self.assertEqual(broker.told(), [it for it in audit if " payments " in it])
 
     def test_its_own_test(self):

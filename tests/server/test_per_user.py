@@ -7,8 +7,9 @@ import unittest
 from kbroker_testing.broker import ClockedKbroker
 from kbroker_testing.codes import Code
 from kbroker_testing.protocol import Connection, logged_in
+from kbroker_testing.waiting import wait_until
 from tests.server.told import of_user
-from tests.support import OF_ROOT, topic, user, wait_until
+from tests.support import OF_ROOT, topic, user
 
 SETTINGS = OF_ROOT + user("ann", "pw") + topic("b")
 FULL = "its user has as many sessions as --per-user says"
@@ -30,7 +31,7 @@ class PerUser(unittest.TestCase):
             with logged_in(server.address, "ann", "pw"):
                 self.assertFalse(self.is_served(server), "a third session is served")
                 self.assertTrue(self.is_served(server, "root", "toor"), "another user isn't served")
-            wait_until(lambda: self.is_served(server), "no second session is served after one has ended")
+            wait_until(lambda: self.is_served(server), otherwise="no second session is served after one has ended")
             self.assertEqual([it["error"] for it in first.ask("Metadata", topics=["b"])["topics"]], [Code.TOPIC_AUTHORIZATION_FAILED])
             self.assertIn(of_user(2, "ann", FULL), server.told())
 

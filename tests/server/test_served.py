@@ -14,11 +14,12 @@ from kbroker_testing.apis import APIS
 from kbroker_testing.broker import REQUESTS, ClockedKbroker, without_stamps
 from kbroker_testing.codes import Code
 from kbroker_testing.protocol import Connection, batch, committed, logged_in, partition_of, request_frame
+from kbroker_testing.waiting import wait_until
 from tests.server.session_bytes import framed
 from tests.server.told import CLOCK_STOPS, CUT, FULL, LOGS_IN, NEARLY_FULL, NO_LOGIN, READ_FAILED, WAITED, WAITING
 from tests.server.told import asked, counted, of_nobody, of_user, text_of
-from tests.support import COLLIDING, LISTEN, LONGEST_FRAME, OF_SUPER, TOP, TooLate
-from tests.support import acl, connect, needs_proved_program, of_b, run_server, topic, user, wait_until
+from tests.support import COLLIDING, LISTEN, LONGEST_FRAME, OF_SUPER, TOP
+from tests.support import acl, connect, needs_proved_program, of_b, run_server, topic, user
 
 USERS = user("root", "toor") + user("ann", "pw")
 TOPIC = topic("b", 2)
@@ -81,7 +82,7 @@ def wait_for_markers(broker):
     for _ in range(10_000):
         if last_offset(broker, 1) == last_offset(broker, 0) and is_stable(broker):
             return
-    raise TooLate("the markers are not written")
+    raise TimeoutError("the markers are not written")
 
 
 def is_closed_unasked(address):
@@ -392,7 +393,7 @@ class Operators(ServedCase):
                 self.produce(broker, b"x", code=Code.TOPIC_AUTHORIZATION_FAILED)
                 told = broker.ask("FindCoordinator", key="g", key_type=0)
                 self.assert_code(told, Code.GROUP_AUTHORIZATION_FAILED)
-                wait_until(lambda: server.told() == refused, "the refusals are not told")
+                wait_until(lambda: server.told() == refused, otherwise="the refusals are not told")
             logged_in(server.address).close()
             settled, told = server.settled()
         self.assertEqual((settled.sessions, settled.refusals, told), (2, 2, refused))
@@ -435,7 +436,7 @@ class Operators(ServedCase):
         """Where the trail is full the operator is told once that the clock stops, and each session ends at its next request."""
         with ClockedKbroker(OF_SUPER + "trail_limit = 5\n" + USERS + TOPIC) as server:
             nearly = NEARLY_FULL.format(5, 5)
-            wait_until(lambda: server.told() == [nearly, CLOCK_STOPS.format(FULL)], "it is not told that the trail is full")
+            wait_until(lambda: server.told() == [nearly, CLOCK_STOPS.format(FULL)], otherwise="it is not told that the trail is full")
             with logged_in(server.address) as broker:
                 broker.send("Metadata", topics=None)
                 self.assert_closed(broker)
@@ -446,9 +447,9 @@ class Operators(ServedCase):
     def test_a_trail_that_fills_up(self):
         """The operator is told once that nine tenths of the trail's room are taken, and not before."""
         with ClockedKbroker(OF_SUPER + "trail_limit = 30\n" + USERS + TOPIC) as server:
-            wait_until(server.told, "it is not told that the trail is nearly full")
+            wait_until(server.told, otherwise="it is not told that the trail is nearly full")
             self.assertEqual(server.told()[0], NEARLY_FULL.format(27, 30))
-            wait_until(lambda: len(server.told()) > 1, "it is not told that the trail is full")
+            wait_until(lambda: len(server.told()) > 1, otherwise="it is not told that the trail is full")
             logged_in(server.address).close()
             _, told = server.settled()
         self.assertEqual(told, [NEARLY_FULL.format(27, 30), CLOCK_STOPS.format(FULL)])
@@ -459,13 +460,13 @@ class Operators(ServedCase):
             with logged_in(server.address), logged_in(server.address) as last:
                 began = time.monotonic()
                 with connect(server.address) as waits:
-                    wait_until(server.told, "it is not told that a connection waits")
+                    wait_until(server.told, otherwise="it is not told that a connection waits")
                     took = time.monotonic() - began
                     self.assertTrue(0.8 < took < 1 + LATE, took)  # ten ticks, between which a rest may end early
                     time.sleep(1)
                     self.assertEqual(server.told(), [WAITING.format(2)])
                     last.close()
-                    wait_until(lambda: len(server.told()) > 1, "it is not told that it is served")
+                    wait_until(lambda: len(server.told()) > 1, otherwise="it is not told that it is served")
                     most = int(time.monotonic() - began)
                     waits.shutdown(socket.SHUT_WR)
                     self.assertEqual(waits.recv(1), b"")

@@ -8,7 +8,8 @@ import unittest
 from kbroker_testing.broker import Group, Kbroker, Marker, Moment, NotTaken, Partition, Settled, Transaction
 from kbroker_testing.codes import Code
 from kbroker_testing.protocol import batch, committed, in_partition, logged_in, partition_of, partitions_of
-from tests.support import LISTEN, TOP, run_server, topic, user, wait_until
+from kbroker_testing.waiting import wait_until
+from tests.support import LISTEN, TOP, run_server, topic, user
 
 TIMEOUT = 60_000
 PARTITIONS = (("debits", 0), ("credits", 0))
@@ -171,11 +172,11 @@ class Steered(unittest.TestCase):
             self.assertEqual(self.broker.say(line), "unreadable", line)
         self.assertEqual(self.broker.state().events, 0)
         told = [UNREADABLE] * len(lines)
-        wait_until(lambda: self.broker.told() == told, "it isn't told which lines there are")
+        wait_until(lambda: self.broker.told() == told, otherwise="it isn't told which lines there are")
 
     def test_open_connections_are_told(self):
         self.broker.hand_in("end")
-        wait_until(lambda: self.broker.told() == [OPEN.format(1)], "it isn't told that a connection is open")
+        wait_until(lambda: self.broker.told() == [OPEN.format(1)], otherwise="it isn't told that a connection is open")
         self.bank.close()
         self.assertEqual(self.broker.settled(), (Settled(1, 0, 0), [OPEN.format(1)]))
 
@@ -194,7 +195,7 @@ class Ends(unittest.TestCase):
             bank = Bank(broker.address)
             self.addCleanup(bank.close)
             broker.hand_in("end")
-            wait_until(lambda: broker.told() == [OPEN.format(1)], "it isn't told that a connection is open")
+            wait_until(lambda: broker.told() == [OPEN.format(1)], otherwise="it isn't told that a connection is open")
             self.assertEqual(bank.begin(), Code.NONE)
             bank.close()
             self.assertEqual(broker.settled(), (Settled(1, 1, 0), [OPEN.format(1)]))

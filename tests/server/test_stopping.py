@@ -22,9 +22,10 @@ from statistics import median
 from kbroker_testing.broker import LAST, BrokerProcess, ClockedKbroker
 from kbroker_testing.codes import Code
 from kbroker_testing.protocol import batch, logged_in, partition_of, request_frame
+from kbroker_testing.waiting import wait_until
 from program import ROOT
 from tests.server.told import CLOCK_STOPS, CLOSED, CUT, FULL, WRITE_FAILED, of_nobody, of_user, without_waits
-from tests.support import LISTEN, OF_ROOT, connect, is_read, needs_proved_program, of_b, topic, user, wait_until
+from tests.support import LISTEN, OF_ROOT, connect, is_read, needs_proved_program, of_b, topic, user
 
 SETTINGS = OF_ROOT + topic("b")
 GRACE = 5  # seconds, if nothing is said of it
@@ -102,7 +103,7 @@ class StoppingCase(unittest.TestCase):
         answer = client.ask("Produce", topics=of_b(records=batch([bytes(1_000_000)])))
         self.assertEqual(partition_of(answer)["error"], Code.NONE)
         client.send("Fetch", max_bytes=UNREAD << 20, topics=of_b(offset=0, max_bytes=1 << 20) * UNREAD)
-        wait_until(lambda: is_read(client.socket), "the request isn't read")
+        wait_until(lambda: is_read(client.socket), otherwise="the request isn't read")
 
     def assert_closed(self, peer):
         """Nothing more comes."""
@@ -147,7 +148,7 @@ class Inputs(StoppingCase):
         frame = request_frame("Metadata", 1, {"topics": None})
         with Stopped(SETTINGS) as broker, connect(broker.address) as peer:
             peer.sendall(frame[:-1])
-            wait_until(lambda: is_read(peer), "the bytes aren't read")
+            wait_until(lambda: is_read(peer), otherwise="the bytes aren't read")
             settled, told = self.assert_stops(broker, 0)
             self.assert_closed(peer)
         self.assertEqual((settled.sessions, told), (1, [of_nobody(0, CUT)]))
@@ -158,7 +159,7 @@ class Inputs(StoppingCase):
         with Stopped(SETTINGS, more=("--librdkafka",)) as broker, contextlib.ExitStack() as stack:
             client, other = (stack.enter_context(logged_in(broker.address)) for _ in range(2))
             client.send("Fetch", max_wait=60_000, topics=of_b(offset=0, max_bytes=1_000))
-            wait_until(lambda: is_read(client.socket), "the request isn't read")
+            wait_until(lambda: is_read(client.socket), otherwise="the request isn't read")
             broker.hand_in("end")
             self.assert_closed(other.socket)
             is_held = not select.select([client.socket], [], [], 0)[0]
@@ -210,7 +211,7 @@ class Inputs(StoppingCase):
     def test_a_full_trail(self):
         """The clock has stopped, and the stop is a clean one."""
         with Stopped("trail_limit = 3\n" + SETTINGS) as broker:
-            wait_until(lambda: CLOCK_STOPS.format(FULL) in broker.told(), "the clock goes on")
+            wait_until(lambda: CLOCK_STOPS.format(FULL) in broker.told(), otherwise="the clock goes on")
             settled, told = self.assert_stops(broker, 0)
         self.assertEqual((settled.events, told[-1]), (3, CLOCK_STOPS.format(FULL)))
 
@@ -366,7 +367,7 @@ class Signals(StoppingCase):
             self.assertTrue(processes)
             broker.process.send_signal(signal.SIGTERM)
             pipe = f"/proc/{broker.process.pid}/fd/3"
-            wait_until(lambda: not os.path.lexists(pipe), "the first signal isn't caught")
+            wait_until(lambda: not os.path.lexists(pipe), otherwise="the first signal isn't caught")
             time.sleep(STARTED_WITHIN)
             self.assertIsNone(broker.process.poll())
             broker.process.send_signal(signal.SIGTERM)

@@ -16,8 +16,9 @@ import unittest
 from kbroker_testing.broker import BrokerProcess, ClockedKbroker
 from kbroker_testing.codes import Code
 from kbroker_testing.protocol import Connection, logged_in
+from kbroker_testing.waiting import wait_until
 from tests.server.told import without_waits
-from tests.support import OF_ROOT, connect, needs_proved_program, topic, wait_until
+from tests.support import OF_ROOT, connect, needs_proved_program, topic
 
 SETTINGS = OF_ROOT + topic("b")
 STRANGERS = 5_000
@@ -62,7 +63,7 @@ class Strangers(unittest.TestCase):
         limits = resource.prlimit(process, resource.RLIMIT_NOFILE)
         resource.prlimit(process, resource.RLIMIT_NOFILE, (most, limits[1]))
         with Connection(server.address) as broker:
-            wait_until(lambda: without_waits(server.told()), "it isn't told that no connection can be accepted")
+            wait_until(lambda: without_waits(server.told()), otherwise="it isn't told that no connection can be accepted")
             time.sleep(0.3)  # thirty more of them fail
             resource.prlimit(process, resource.RLIMIT_NOFILE, limits)
             self.assertEqual(broker.login("root", "toor"), Code.NONE)
@@ -113,7 +114,7 @@ class Strangers(unittest.TestCase):
                 with logged_in(server.address, source="127.0.0.2") as broker:
                     self.assert_served(broker)
                 first.close()
-                wait_until(lambda: self.is_let_in(server), "no third connection is let in")
+                wait_until(lambda: self.is_let_in(server), otherwise="no third connection is let in")
             settled, told = server.settled()
         self.assertEqual((settled.sessions, settled.refusals), (4, 0))
         self.assertEqual({*without_waits(told)}, {TURNED_AWAY})
@@ -123,7 +124,7 @@ class Strangers(unittest.TestCase):
         with ClockedKbroker(SETTINGS, workers=1, connections=3, more=("--per-host", "2")) as server:
             with connect(server.address), connect(server.address):
                 self.assert_turned_away(server)
-            wait_until(lambda: self.is_let_in(server), "no connection is let in")
+            wait_until(lambda: self.is_let_in(server), otherwise="no connection is let in")
             settled, told = server.settled()
         self.assertEqual((settled.sessions, settled.refusals), (3, 0))
         self.assertEqual({*without_waits(told)}, {TURNED_AWAY})

@@ -13,6 +13,7 @@ from datetime import datetime, timedelta, timezone
 from kbroker_testing.broker import LAST, REQUESTS, STAMP, ClockedKbroker, Kbroker, without_stamps
 from kbroker_testing.codes import Code
 from kbroker_testing.protocol import batch, in_partition, logged_in, partition_of
+from kbroker_testing.waiting import wait_until
 from tests.server.session_bytes import HANDSHAKE, framed
 from tests.server.told import (
     BAD_FRAME,
@@ -28,7 +29,7 @@ from tests.server.told import (
     of_user,
     text_of,
 )
-from tests.support import LISTEN, OF_ROOT, TOP, connect, of_b, run_server, topic, user, wait_until
+from tests.support import LISTEN, OF_ROOT, TOP, connect, of_b, run_server, topic, user
 
 SETTINGS = OF_ROOT + user("ann", "pw") + topic("b")
 # RFC 3339: a moment in UTC, to the millisecond; its level; and the line.
@@ -124,7 +125,7 @@ class Stamps(ToldCase):
         """And not that at which the server ends."""
         with ClockedKbroker(SETTINGS, connections=2) as broker:
             self.fail_to_log_in(broker)
-            wait_until(lambda: asked(0, LOGS_IN.format("ann")) in broker.told(), "the failed login isn't told")
+            wait_until(lambda: asked(0, LOGS_IN.format("ann")) in broker.told(), otherwise="the failed login isn't told")
             seen = datetime.now(timezone.utc)
             time.sleep(1)
             self.fail_to_log_in(broker)
@@ -138,7 +139,7 @@ class Stamps(ToldCase):
     def test_levels(self):
         """Those of a trail that fills up, of which somebody has to take care, and of a session that ends on it."""
         with ClockedKbroker("trail_limit = 5\n" + SETTINGS) as broker:
-            wait_until(lambda: len(broker.told()) == 2, "it is not told that the trail is full")
+            wait_until(lambda: len(broker.told()) == 2, otherwise="it is not told that the trail is full")
             with logged_in(broker.address) as client:
                 client.send("Metadata", topics=None)
                 self.assertEqual(client.input.read(), b"")
@@ -198,7 +199,7 @@ class Alike(ToldCase):
                 self.ask_unserved(broker, METADATA_IN_NINE)
                 if number == 10:
                     more = f"kbroker: 10 more sessions, up to session 10: {NINE}"
-                    wait_until(lambda: more in broker.told(), "it isn't told that there were ten more")
+                    wait_until(lambda: more in broker.told(), otherwise="it isn't told that there were ten more")
             settled, told = broker.settled()
         self.assertEqual(settled.sessions, 12)
         lines = [line for line in told if line.endswith(NINE)]
@@ -215,7 +216,7 @@ class Alike(ToldCase):
             for frame in (*[METADATA_IN_NINE] * 3, *others):
                 self.ask_unserved(broker, frame)
             more = f"kbroker: 2 more sessions, up to session 2: {NINE}"
-            wait_until(lambda: more in broker.told(), "it isn't told that there were two more")
+            wait_until(lambda: more in broker.told(), otherwise="it isn't told that there were two more")
             self.ask_unserved(broker, METADATA_IN_NINE)
             _, told = broker.settled()
         of_others = [asked(3 + it, f"asks api {1_000 + it}, which isn't served") for it in range(len(others))]
@@ -231,7 +232,7 @@ class Alike(ToldCase):
             more = f"kbroker: 2 more sessions, up to session 2: {NINE}"
             time.sleep(QUIET - LATE)
             self.assertNotIn(more, broker.told())
-            wait_until(lambda: more in broker.told(), "it isn't told that there were two more")
+            wait_until(lambda: more in broker.told(), otherwise="it isn't told that there were two more")
             self.ask_unserved(broker, METADATA_IN_NINE)
             _, told = broker.settled()
         self.assertEqual([it for it in told if it.endswith(NINE)], [asked(0, NINE), more, asked(3, NINE)])

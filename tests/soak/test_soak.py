@@ -18,7 +18,7 @@ import unittest
 from kbroker_testing.broker import ClockedKbroker
 from kbroker_testing.codes import Code
 from kbroker_testing.protocol import batch, batches_of, committed, in_partition, logged_in, partition_of, request_frame
-from tests.support import OF_ROOT, TooLate, topic
+from tests.support import OF_ROOT, topic
 
 ROUNDS = int(os.environ.get("KBROKER_SOAK_ROUNDS", "1"))
 SEED = os.environ.get("KBROKER_SOAK_SEED")
@@ -115,7 +115,7 @@ def seen(broker, topic):
             if answer["last_stable_offset"] == answer["high_watermark"]:
                 return values
             if time.monotonic() > until:
-                raise TooLate(f"a transaction of {topic} stays open")
+                raise TimeoutError(f"a transaction of {topic} stays open")
             time.sleep(0.05)  # a transaction is open, or its marker is pending
             continue
         values += [value for _, value in committed(answer, offset)]

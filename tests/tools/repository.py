@@ -6,7 +6,6 @@ import subprocess
 import sys
 import tempfile
 import textwrap
-import time
 from pathlib import Path
 
 from processes import processes, remove
@@ -126,12 +125,3 @@ class Repository:
             if folder.startswith(str(self.top)):
                 working.append(it)
         return working, [it.name for it in self.files.iterdir()]
-
-
-def until(holds, otherwise):
-    """Waits until something holds."""
-    end = time.monotonic() + WAIT
-    while not holds():
-        if time.monotonic() > end:
-            raise AssertionError(otherwise)
-        time.sleep(0.05)

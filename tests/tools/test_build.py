@@ -7,8 +7,9 @@ import signal
 import subprocess
 import unittest
 
+from kbroker_testing.waiting import wait_until
 from program import ROOT
-from tests.tools.repository import WAIT, Repository, until
+from tests.tools.repository import WAIT, Repository
 from tests.tools.test_run_tests import LOADER
 
 # As rt does, it runs what it has compiled by the loader, in a folder that has the program.
@@ -92,7 +93,7 @@ class Build(unittest.TestCase):
         """It ends rt, and leaves no file."""
         self.goes_on.unlink()
         process = self.repository.start("tools/serve_example.py")
-        until(self.calls.exists, "rt isn't called")
+        wait_until(self.calls.exists, WAIT, "rt isn't called")
         process.send_signal(signal.SIGTERM)
         self.assertEqual((process.communicate(timeout=WAIT)[0], process.returncode), (f"{COMPILED}\n", 128 + signal.SIGTERM))
         self.assertEqual(self.repository.left(), ([], []))

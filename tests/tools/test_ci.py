@@ -10,8 +10,9 @@ import tempfile
 import unittest
 from pathlib import Path
 
+from kbroker_testing.waiting import wait_until
 from program import ROOT
-from tests.tools.repository import WAIT, until
+from tests.tools.repository import WAIT
 
 PAGES = "/sys/kernel/mm/transparent_hugepage/enabled"
 SCRIPTS = {
@@ -86,7 +87,7 @@ class Run(unittest.TestCase):
         self.set(verify="waits")
         process = self.start()
         self.addCleanup(process.kill)
-        until(lambda: len(self.said()) == 4, "the gate isn't run")
+        wait_until(lambda: len(self.said()) == 4, WAIT, "the gate isn't run")
         process.send_signal(signal.SIGTERM)
         self.assert_ends(143, [*INSTALLED, "make test: always", "make verify: always"], process)
 

@@ -12,11 +12,12 @@ from unittest import mock
 
 import kept
 import processes
+from kbroker_testing.waiting import wait_until
 from kept import ANEW, Kept
 from program import PARTS
 from tests.harness import ON_SOURCES
 from tests.sources import test_failing_tests as failing
-from tests.tools.repository import EDITS, KIT, PROVED, TRIED_AT_ONCE, WAIT, Repository, until
+from tests.tools.repository import EDITS, KIT, PROVED, TRIED_AT_ONCE, WAIT, Repository
 
 # It notes each call, and how many run then. The tests of a copy that has an edit fail, and those of one that has none pass,
 # unless a file says something else.
@@ -255,7 +256,7 @@ class BesideProofs(Tried):
         process = self.repository.start(*TRIED)
         self.addCleanup(processes.end, process)
         wrong = self.top / "wrong"
-        until(lambda: wrong.exists() and len(wrong.read_text().split()) >= ALL - 1, "not all were tried")
+        wait_until(lambda: wrong.exists() and len(wrong.read_text().split()) >= ALL - 1, WAIT, "not all were tried")
         time.sleep(1)
         self.assertEqual(self.calls(), ALL)
         self.proofs.unlink()

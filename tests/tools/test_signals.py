@@ -8,9 +8,10 @@ import os
 import signal
 import unittest
 
+from kbroker_testing.waiting import wait_until
 from processes import children_of, processes
 from tests.harness import ON_SOURCES
-from tests.tools.repository import EDITS, PROVED, TRIED_AT_ONCE, WAIT, Repository, until
+from tests.tools.repository import EDITS, PROVED, TRIED_AT_ONCE, WAIT, Repository
 
 # Each call notes its number, and that of the process that it started, which does so: before it runs a signal to it may get lost.
 RT = """
@@ -57,12 +58,12 @@ class Signals(unittest.TestCase):
     def assert_ends(self, process, number, calls, leaves_files=False):
         """Sends a signal once so many calls of rt run. Then all of it ends."""
         self.addCleanup(self.end_all)
-        until(lambda: len(self.started()) >= 2 * calls, "rt wasn't called")
+        wait_until(lambda: len(self.started()) >= 2 * calls, WAIT, "rt wasn't called")
         process.send_signal(number)
         said, _ = process.communicate(timeout=WAIT)
         self.assertEqual(process.returncode, -number if number == signal.SIGKILL else 128 + number, said)
         if number == signal.SIGKILL:  # it waits for nothing
-            until(lambda: self.left()[:2] == ([], []), "processes are left")
+            wait_until(lambda: self.left()[:2] == ([], []), WAIT, "processes are left")
         running, working, files = self.left()
         self.assertEqual((running, working), ([], []))
         if not leaves_files:
@@ -106,7 +107,7 @@ class Signals(unittest.TestCase):
         self.addCleanup(self.end_all)
         said, _ = process.communicate(timeout=WAIT)
         self.assertEqual(process.returncode, 1, said)
-        until(lambda: self.left() == ([], [], []), "processes are left")
+        wait_until(lambda: self.left() == ([], [], []), WAIT, "processes are left")
 
     def test_a_module_is_killed(self):
         """As where memory runs out. What it started is told to end."""
@@ -114,7 +115,7 @@ class Signals(unittest.TestCase):
             with self.subTest(name):
                 self.begun.write_text("")
                 process = self.repository.start("-m", "tests.harness", name)
-                until(lambda calls=calls: len(self.started()) >= 2 * calls, "rt wasn't called")
+                wait_until(lambda calls=calls: len(self.started()) >= 2 * calls, WAIT, "rt wasn't called")
                 [module] = children_of(processes())[process.pid]
                 os.kill(module, signal.SIGKILL)
                 self.assert_fails(process)
