@@ -1,5 +1,6 @@
 """What bindings and filters say, looked for among all bindings, one after the other: KIP-290, and KIP-679 for who may write."""
 
+from collections.abc import Collection
 from enum import IntEnum
 from typing import NamedTuple
 
@@ -32,7 +33,7 @@ REFUSED = {
 }
 
 
-def escaped(text):
+def escaped(text: str) -> str:
     """A word of an audit line: controls, blanks, `%` and bytes above 7f are escaped."""
     plain = (chr(it) if 0x20 < it < 0x7F and it != 0x25 else f"%{it:02X}" for it in text.encode())
     return "".join(plain)
@@ -49,42 +50,43 @@ class Entry(NamedTuple):
     operation: int
     permission: int
 
-    def covers(self, name):
+    def covers(self, name: str) -> bool:
         """Whether this binding is about this name."""
-        return name.startswith(self.name) if self.pattern == Pattern.PREFIXED else self.name in (name, "*")
+        return name.startswith(self.name or "") if self.pattern == Pattern.PREFIXED else self.name in (name, "*")
 
-    def is_for(self, principal, host):
+    def is_for(self, principal: str, host: str) -> bool:
         """Whether this binding is about a principal at a host."""
         return self.principal in (principal, "User:*") and self.host in (host, "*")
 
-    def takes(self, binding):
+    def takes(self, binding: "Entry") -> bool:
         """Whether this filter's pattern and name take those of the binding (KIP-290)."""
         if self.pattern == Pattern.MATCH:
             return self.name is None or binding.covers(self.name)
         return self.pattern in (ANY, binding.pattern) and self.name in (None, binding.name)
 
-    def picks(self, binding):
+    def picks(self, binding: "Entry") -> bool:
         """Whether this filter picks the binding."""
         return self.takes(binding) and all(it in (ANY, None, own) for it, own in zip(self[2:], binding[2:]))
 
-    def is_creatable(self):
+    def is_creatable(self) -> bool:
         """Whether this is a binding, and no filter or nothing at all."""
-        texts = self.name and self.host and self.principal.startswith("User:") and len(self.principal) > len("User:")
+        user = (self.principal or "").removeprefix("User:")
+        texts = self.name and self.host and user and user != self.principal
         numbers = self.kind in [*Kind] and self.operation in [*Operation] and self.permission in [*Permission]
         is_named = self.kind != Kind.Cluster or self.name == CLUSTER
         return bool(texts and numbers and is_named and self.pattern in (Pattern.LITERAL, Pattern.PREFIXED))
 
-    def is_filter(self):
+    def is_filter(self) -> bool:
         """Whether each number is one that a filter may have."""
         numbers = (self.kind, Kind), (self.pattern, Pattern), (self.operation, Operation), (self.permission, Permission)
         return all(it in (ANY, *words) for it, words in numbers)
 
-    def stands_over(self, allow):
+    def stands_over(self, allow: "Entry") -> bool:
         """Whether this denial of a topic leaves nothing of what the other binding allows (KIP-679)."""
         everything = "*", Pattern.LITERAL
         if everything in (self[:2], allow[:2]):
             return self[:2] == everything
-        begins = self.pattern == Pattern.PREFIXED and allow.name.startswith(self.name)
+        begins = self.pattern == Pattern.PREFIXED and (allow.name or "").startswith(self.name or "")
         return begins or self[:2] == allow[:2]
 
 
@@ -95,10 +97,11 @@ OPEN = Entry(None, ANY, ANY, None, None, ANY, ANY)
 class Book:
     """The bindings by their creation numbers, and the super users, to whom all is allowed."""
 
-    def __init__(self, supers=()):
-        self.supers, self.bindings, self.last = supers, {}, 0
+    def __init__(self, supers: Collection[str] = ()) -> None:
+        self.supers, self.last = supers, 0
+        self.bindings: dict[int, Entry] = {}
 
-    def add(self, binding):
+    def add(self, binding: Entry) -> bool:
         """Adds a binding, and gives whether it is a new one."""
         is_new = binding not in self.bindings.values()
         if is_new:
@@ -106,17 +109,17 @@ class Book:
             self.bindings[self.last] = binding
         return is_new
 
-    def picked(self, wanted):
+    def picked(self, wanted: Entry) -> dict[int, Entry]:
         """The bindings that a filter picks, by their numbers."""
         return {at: it for at, it in self.bindings.items() if wanted.picks(it)}
 
-    def remove(self, wanted):
+    def remove(self, wanted: Entry) -> dict[int, Entry]:
         """Takes out what a filter picks, and gives it."""
         gone = self.picked(wanted)
         self.bindings = {at: it for at, it in self.bindings.items() if at not in gone}
         return gone
 
-    def refusal(self, principal, host, operation, kind, name):
+    def refusal(self, principal: str, host: str, operation: Operation, kind: Kind, name: str) -> str | None:
         """The line that tells how it is refused, or None where it is allowed: the oldest denial comes before any allow."""
         if principal in self.supers:
             return None
@@ -130,7 +133,7 @@ class Book:
             return f"denied {words} by {min(denials)}"
         return None if allows else f"unmatched {words}"
 
-    def lets_write_to_a_topic(self, principal, host):
+    def lets_write_to_a_topic(self, principal: str, host: str) -> bool:
         """Whether somebody may write to a topic at all, which is enough for an idempotent producer (KIP-679)."""
         if principal in self.supers:
             return True

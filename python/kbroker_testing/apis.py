@@ -1,6 +1,12 @@
 """The apis that are served, in each version that is: what is asked and answered, as the protocol's guide has it."""
 
 import re
+from typing import Any, Union
+
+# A kind of value: a word, as `i32`, a list of items of one kind, or fields.
+FieldKind = Union[str, tuple[str, "FieldKind"], "FieldSchema"]
+# Fields, each with its name, its kind, and whether it may be null.
+FieldSchema = list[tuple[str, FieldKind, bool]]
 
 FILTER = "kind i8, name s?, pattern i8, principal s?, host s?, operation i8, permission i8"
 BINDING = "kind i8, name s, pattern i8, principal s, host s, operation i8, permission i8"
@@ -12,7 +18,7 @@ ENDED = "throttle i32, error i16"
 # Each api, EndTxn in each of its versions (with its number after the name from 1 on): key and version, whether it is
 # flexible, and what is asked and answered. `s` is a text, `b` bytes, `i8` to `i64` numbers, `bool` a truth, `[..]` a list;
 # with `?` it may be null. https://kafka.apache.org/protocol.html
-APIS = {
+APIS: dict[str, tuple[int, int, bool, str, str]] = {
     "Produce": (
         0, 3, False,
         "transactional_id s?, acks i16, timeout i32, topics [topic s, partitions [index i32, records b?]]",
@@ -105,7 +111,7 @@ APIS = {
 }
 
 # What a request says where nothing is given.
-DEFAULTS = {
+DEFAULTS: dict[str, Any] = {
     "replica": -1, "max_wait": 0, "min_bytes": 1, "timeout": 30_000, "acks": -1, "retention": -1, "generation": -1,
     "leader_epoch": -1, "session_timeout": 30_000, "rebalance_timeout": 30_000, "isolation": 0, "key_type": 0,
     "max_bytes": 1 << 20, "protocol_type": "consumer", "member": "", "require_stable": False,
@@ -115,35 +121,43 @@ TOKEN = re.compile(r"\s*([\[\],?]|[a-z_0-9]+)")
 
 
 class Schema:
-    """A list of fields, each with its name and its kind: a word, or the schema of a list's items."""
+    """Reads a list of fields, each with its name and its kind."""
 
-    def __init__(self, text):
-        self.words, self.at = TOKEN.findall(text), 0
-        self.fields = self.read_fields(None)
+    def __init__(self, text: str) -> None:
+        self.words: list[str] = TOKEN.findall(text)
+        self.at = 0
 
-    def read_fields(self, end):
-        """The fields up to a word. A list of one kind without a name has that kind alone."""
-        fields = []
-        while self.at < len(self.words) and self.words[self.at] != end:
+    def read_fields(self) -> FieldSchema:
+        """The fields up to the end, or to that of a list."""
+        fields: FieldSchema = []
+        while self.at < len(self.words) and self.words[self.at] != "]":
             name = self.words[self.at]
             self.at += 1
-            if end and self.words[self.at] == end:
-                return name
             fields.append((name, *self.read_kind()))
             if self.at < len(self.words) and self.words[self.at] == ",":
                 self.at += 1
         return fields
 
-    def read_kind(self):
+    def read_items(self) -> FieldKind:
+        """The kind of a list's items: one kind without a name, or fields."""
+        if self.words[self.at + 1] == "]":
+            self.at += 1
+            return self.words[self.at - 1]
+        return self.read_fields()
+
+    def read_kind(self) -> tuple[FieldKind, bool]:
         """A kind, and whether a value of it may be null."""
-        kind = self.words[self.at]
+        kind: FieldKind = self.words[self.at]
         self.at += 1
         if kind == "[":
-            kind = ("list", self.read_fields("]"))
+            kind = ("list", self.read_items())
             self.at += 1
         may_be_null = self.at < len(self.words) and self.words[self.at] == "?"
         self.at += may_be_null
         return kind, may_be_null
 
 
-SCHEMAS = {name: (Schema(api[3]).fields, Schema(api[4]).fields) for name, api in APIS.items()}
+# What each api is asked and answered.
+SCHEMAS: dict[str, tuple[FieldSchema, FieldSchema]] = {
+    name: (Schema(asked).read_fields(), Schema(answered).read_fields()) for name, (_, _, _, asked, answered) in APIS.items()
+}

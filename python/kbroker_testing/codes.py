@@ -42,7 +42,7 @@ class Code(IntEnum):
     PRODUCER_FENCED = 90
 
 
-def named(number):
+def named(number: int) -> str:
     """A code's number and its name."""
     try:
         return f"{number} {Code(number).name}"

@@ -283,5 +283,5 @@ class SteeredConfluentKafka(unittest.TestCase):
         producer.commit_transaction(WAIT)
         self.assertEqual(broker.state().transactions["transfer"].state, "PrepareCommit")
         self.assertEqual(read(broker.address, "orders", 0), [])
-        self.assertEqual([(it.outcome, it.name, it.index) for it in broker.marks()], [("commit", "orders", 0)])
+        self.assertEqual([(it.outcome, it.name, it.partition) for it in broker.marks()], [("commit", "orders", 0)])
         self.assertEqual(read(broker.address, "orders", 1), [b"kept"])

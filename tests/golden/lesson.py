@@ -28,7 +28,7 @@ def typed(broker, line):
         return broker.wait("end\n")[1].splitlines()
     heard = [broker.say(line)]
     while line in LAST and not heard[-1].startswith(LAST[line]):
-        heard.append(broker.heard())
+        heard.append(broker.next_line())
     return heard
 
 

@@ -10,7 +10,7 @@ import types
 import unittest
 from unittest import mock
 
-from kbroker_testing.broker import BrokerFailed, Kbroker, NotTaken
+from kbroker_testing.broker import Kbroker, NotTaken
 from kbroker_testing.codes import Code
 from kbroker_testing.protocol import in_partition, logged_in, partition_of
 from kbroker_testing.settings import allow, deny, joined, super_users, topic, user
@@ -109,11 +109,6 @@ class Connecting(unittest.TestCase):
             fixed = {"security.protocol": "SASL_PLAINTEXT", "sasl.mechanism": "PLAIN", "group.id": "g"}
             self.assertEqual({it: told[it] for it in fixed}, fixed)
 
-    def test_no_program(self):
-        """A sentence tells what to do."""
-        with self.assertRaisesRegex(BrokerFailed, r"/none can't be run \(No such file or directory\): name one .* `make build`"):
-            Kbroker(SETTINGS, program="/none").__enter__()
-
 
 class Settings(unittest.TestCase):
     def test_parts(self):
@@ -142,17 +137,6 @@ class Settings(unittest.TestCase):
             for name, code in (("b", Code.NONE), ("bb", Code.TOPIC_AUTHORIZATION_FAILED)):
                 answer = client.ask("Fetch", topics=in_partition((name, 0), offset=0, max_bytes=1))
                 self.assertEqual(partition_of(answer)["error"], code)
-
-    def test_misuse(self):
-        for wrong, words in (
-            (lambda: allow("u", "READ"), "one of topic, group, transactional_id, cluster is wanted, and this is named: nothing"),
-            (lambda: allow("u", "READ", topic="a", group="b"), "topic, group"),
-            (lambda: deny("u", "READ", subject="a"), "subject"),
-            (lambda: user("u", 1), "a text is wanted"),
-            (lambda: joined([1]), "a list of texts"),
-        ):
-            with self.subTest(words), self.assertRaisesRegex(TypeError, words):
-                wrong()
 
 
 class Waiting(unittest.TestCase):

@@ -58,7 +58,7 @@ class Timelines(unittest.TestCase):
     def test_when_they_were_appended(self):
         steps = self.steps(produced(b"x"), "tick 5", produced(b"y"))
         self.assertEqual([it.step for it in timeline.appended(steps, PART)], [0, 2])
-        self.assertEqual([*timeline.Columns(steps)], [0, 2])  # a tick changes nothing here
+        self.assertEqual([*timeline.columns_of(steps)], [0, 2])  # a tick changes nothing here
 
     def test_steps_in_words(self):
         fetch = line("ann", "Fetch", topics=in_partition(PART, offset=0, max_bytes=1))
