@@ -53,6 +53,8 @@ CLOSED_LATE = re.compile(r"kbroker: session (\d+) is closed, since it was still 
 # The first line of a table of the settings, after which no key stands outside a table.
 TABLE = re.compile(r"^[ \t]*\[", re.M)
 AT_LINE = re.compile(r"(kbroker: settings: TOML parse error at line )(\d+)")
+# The properties of librdkafka, and of confluent-kafka, that have underscores themselves.
+UNDERSCORED = re.compile(r"log_level|on_[a-z]+|[a-z_]+_cb")
 # What is told where as many connections were taken as are served.
 USED_UP = "kbroker: no more connections are taken, since --connections is {}"
 TICKS = os.sysconf("SC_CLK_TCK")
@@ -548,7 +550,7 @@ class Kbroker(BrokerProcess):
 
     def client_config(self, user: str, password: str, **more: Any) -> dict[str, Any]:
         """The properties by which a user's client on librdkafka connects, as confluent-kafka takes them, with more of them: their dots
-        are underscores here."""
+        are underscores here. `log_level` and callbacks are themselves."""
         own: dict[str, Any] = {
             "bootstrap.servers": self.address,
             "security.protocol": "SASL_PLAINTEXT",
@@ -556,7 +558,7 @@ class Kbroker(BrokerProcess):
             "sasl.username": user,
             "sasl.password": password,
         }
-        return own | {name.replace("_", "."): it for name, it in more.items()}
+        return own | {name if UNDERSCORED.fullmatch(name) else name.replace("_", "."): it for name, it in more.items()}
 
     @contextlib.contextmanager
     def steered(self: SteeredBroker) -> Iterator[SteeredBroker]:

@@ -103,10 +103,10 @@ class Connecting(unittest.TestCase):
     def test_what_clients_connect_by(self):
         with Kbroker(SETTINGS) as broker:
             self.assertEqual(broker.bootstrap_servers, broker.address)
-            told = broker.client_config("root", "toor", group_id="g")
+            told = broker.client_config("root", "toor", group_id="g", log_level=0, error_cb=print)
             with logged_in(told["bootstrap.servers"], told["sasl.username"], told["sasl.password"]) as client:
                 self.assertEqual([it["topic"] for it in client.ask("Metadata", topics=None)["topics"]], ["b"])
-            fixed = {"security.protocol": "SASL_PLAINTEXT", "sasl.mechanism": "PLAIN", "group.id": "g"}
+            fixed = {"security.protocol": "SASL_PLAINTEXT", "sasl.mechanism": "PLAIN", "group.id": "g", "log_level": 0, "error_cb": print}
             self.assertEqual({it: told[it] for it in fixed}, fixed)
 
 

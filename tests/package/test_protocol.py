@@ -265,7 +265,7 @@ class CommandLine(unittest.TestCase):
             ((nobody, "u", "p", "Metadata", "[]"), 'the fields stand in an object, as in {"topics": ["orders"]}'),
             ((nobody, "u", "p", "Metadata", '{"topic": 1}'), "Metadata: there is no field topic; those that are: topics"),
             ((nobody, "u", "p", "FindCoordinator"), "FindCoordinator: the field key is missing"),
-            ((nobody, "u", "p", "Produce", '{"topics": ["b"]}'), "Produce: topics[0] is 'b', and not a dict of fields; --help has each field"),
+            ((nobody, "u", "p", "Produce", '{"topics": ["b"]}'), "Produce: topics[0] is 'b', and not a dict of fields; --help "),
             ((nobody, "u", "p", "Metadata"), f"nobody answers at {nobody}"),
             (("here", "u", "p", "Metadata"), "here is no HOST:PORT"),
         )
