@@ -81,6 +81,13 @@ FIRST = part_of("README.md", "## One minute", "## Five minutes")
 OWN_TEST = part_of("README.md", "## Five minutes", "## What is served")
 
 
+def recipes(heading, until):
+    """The program of a section of docs/TESTING_WITH_KBROKER.md, which begins with the block of the page's first one."""
+    page = "docs/TESTING_WITH_KBROKER.md"
+    parts = part_of(page, "## The fixture", "## Recipes with confluent-kafka"), part_of(page, heading, until)
+    return "\n".join(block for part in parts for block in blocks_of(part, "python"))
+
+
 def serving():
     """A broker as `make serve` starts it, but for where it listens."""
     more = WORDS[WORDS.index("--audit") :]

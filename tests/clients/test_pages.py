@@ -1,5 +1,5 @@
-"""The pages for people with kcat and confluent-kafka: README's first one, and those of examples/. Their commands are run as they
-stand there, and print what stands there."""
+"""The pages for people with kcat and confluent-kafka: README's first one, those of examples/, and the recipes of
+docs/TESTING_WITH_KBROKER.md. Their commands are run as they stand there, and print what stands there."""
 
 import sys
 import unittest
@@ -8,8 +8,10 @@ from kbroker_testing.waiting import wait_until
 from packages import OF_THE_SYSTEM
 from program import ROOT
 from tests.clients.test_clients import has_kafka, needs_kcat
-from tests.pages import FIRST, Room, assert_prints, assert_steps, blocks_of, serving, steps_of
+from tests.pages import FIRST, Room, assert_prints, assert_steps, blocks_of, recipes, serving, steps_of
 from tests.support import without_package
+
+RECIPES = 5
 
 
 def interpreter_with_kafka(case):
@@ -49,3 +51,10 @@ class WithConfluentKafka(unittest.TestCase):
         code = "\n".join(blocks_of((ROOT / "examples/confluent_kafka.md").read_text(), "python"))
         with serving() as broker, Room(broker.address) as room:
             assert_prints(self, room, code, interpreter)
+
+    def test_recipes(self):
+        """Their blocks are one program, all of whose tests pass."""
+        interpreter = interpreter_with_kafka(self)
+        code = recipes("## Recipes with confluent-kafka", "## Recipes with the raw client")
+        with Room() as room:
+            self.assertRegex(room.run(code, interpreter)[1], rf"(?s)Ran {RECIPES} tests .*\nOK\n")

@@ -1,14 +1,14 @@
 """What people read first of the package does what it says: README's path for whoever has Python alone, its own test, the
-recipes of docs/TESTING_WITH_KBROKER.md, and what docs/USING.md shows without a broker."""
+recipes of docs/TESTING_WITH_KBROKER.md with its client, and what docs/USING.md shows without a broker."""
 
 import sys
 import unittest
 
 from kbroker_testing.waiting import wait_until
 from program import ROOT
-from tests.pages import ADDRESS, FIRST, OWN_TEST, Room, assert_prints, assert_steps, blocks_of, serving, steps_of
+from tests.pages import ADDRESS, FIRST, OWN_TEST, Room, assert_prints, assert_steps, blocks_of, recipes, serving, steps_of
 
-RECIPES = 6
+RECIPES = 3
 WITHOUT_A_BROKER = 2  # blocks of docs/USING.md
 
 
@@ -29,8 +29,8 @@ class Pages(unittest.TestCase):
             assert_prints(self, room, code, sys.executable)
 
     def test_recipes(self):
-        """The blocks of the page are one program, all of whose tests pass."""
-        code = "\n".join(blocks_of((ROOT / "docs/TESTING_WITH_KBROKER.md").read_text(), "python"))
+        """The blocks are one program, all of whose tests pass."""
+        code = recipes("## Recipes with the raw client", "## Steering")
         with Room() as room:
             self.assertRegex(room.run(code, sys.executable)[1], rf"(?s)Ran {RECIPES} tests .*\nOK\n\Z")
 
