@@ -40,8 +40,9 @@ def entry_points(told):
 
 
 def sources():
-    """The modules of the package, by their names in the wheel."""
-    return {f"{PACKAGE}/{it.name}": it.read_bytes() for it in sorted((HERE / PACKAGE).glob("*.py"))}
+    """The modules of the package, and the file that says that they have types, by their names in the wheel."""
+    files = sorted([*(HERE / PACKAGE).glob("*.py"), HERE / PACKAGE / "py.typed"])
+    return {f"{PACKAGE}/{it.name}": it.read_bytes() for it in files}
 
 
 def described(told):

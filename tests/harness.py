@@ -49,6 +49,7 @@ SIDE_BY_SIDE = (
     "tests.abuse.test_kept",
     "tests.package.test_acl_model",
     "tests.package.test_broker",
+    "tests.package.test_dist",
     "tests.package.test_misuse",
     "tests.package.test_pages",
     "tests.package.test_protocol",

@@ -99,8 +99,9 @@ class Build(unittest.TestCase):
         self.assertEqual(self.repository.left(), ([], []))
 
     def test_what_kbroker_runs(self):
-        """Nothing, what was compiled, or the proved program, of which alone nothing is said."""
+        """Nothing, what was compiled, or the proved program, of which alone nothing is said. What isn't there isn't installed."""
         self.assertEqual(self.kbroker("replay"), (3, "", f"{NOT_BUILT}\n"))
+        self.assertEqual(self.run_tool("install"), (3, [NOT_BUILT], 0))
         self.run_tool("build")
         self.assertEqual(self.kbroker("replay", "x"), (7, "replay x\ninput\n", f"{NOT_PROVED}\n"))
         self.make_proved()
