@@ -11,9 +11,9 @@ from unproved import UNPROVED
 
 # What the program is made of, and what is proved of it.
 SOURCES = "crates", "crates.txt", "HANDLES"
-PROVED = "yes: the prover accepted each function of its crates before it was built (`make prove`)"
+PROVED = "yes: the prover accepted each function of its crates, as they stand there, before it was built (`make prove`)"
 NOT_PROVED = "no: nothing was proved of this program. It was compiled without a proof (`make build`), with checks that make it slow"
-UNKNOWN = "unknown: it is neither what `make prove` nor what `make build` has built of these sources"
+UNKNOWN = "unknown: it is neither what `make prove` nor what `make build` has built of what stands there"
 READ_ON = "docs/THEOREM.md says what is promised of a proved program, its premises, and what is trusted.\n"
 
 
@@ -51,7 +51,7 @@ def told_of_gate(gate, are_same):
 def text_of(program, version, gate, are_same):
     """What stands in the file PROOF beside this program."""
     fields = {"program": f"kbroker {version}", "sha256": hashlib.sha256(program.read_bytes()).hexdigest()}
-    fields |= {"sources": f"commit {commit()}", "toolchain": kit_id(), "proved": proved(program)}
+    fields |= {"packed at": f"commit {commit()}", "toolchain": kit_id(), "proved": proved(program)}
     if fields["proved"] == PROVED:
         fields |= told_of_gate(gate, are_same)
     return "".join(f"{f'{name}:':<11}{text}\n" for name, text in fields.items()) + f"\n{READ_ON}"

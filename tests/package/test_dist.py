@@ -27,7 +27,7 @@ import dist_pages
 import dist_proof
 from kbroker_testing.broker import BrokerProcess
 from kbroker_testing.protocol import batch, logged_in, partition_of
-from program import ROOT
+from program import ROOT, what_lacks
 from tests.support import OF_ROOT, PROGRAM, of_b, topic
 
 SETTINGS = OF_ROOT + topic("b")
@@ -60,13 +60,16 @@ folder = None  # in which all is packed
 
 
 def setUpModule():
-    """Packs everything, twice."""
+    """Packs everything, twice, unpacks it, and makes a folder with no more commands than it calls."""
     global folder
     folder = Path(unittest.enterModuleContext(tempfile.TemporaryDirectory()))
     made = [subprocess.Popen([ROOT / "tools/dist.py", "--program", PROGRAM, "--into", folder / it]) for it in ("packed", "again")]
     if any([it.wait(WAIT) for it in made]):
         raise AssertionError("nothing is packed")
     shutil.unpack_archive(folder / "packed" / TARBALL, folder)
+    (folder / "path").mkdir()
+    for name in CALLED:
+        (folder / "path" / name).symlink_to(shutil.which(name))
 
 
 def run(*words, status=0, **more):
@@ -142,7 +145,8 @@ class Packed(unittest.TestCase):
 class Proof(unittest.TestCase):
     """The file PROOF."""
 
-    GATE = {"commit": "0123abcd", "date": "2026-12-01", "kit": "a kit", "processors": 4, "machine": "a machine", "last": "9 passed, 0 failed"}
+    GATE = {"commit": "0123abcd", "date": "2026-12-01", "kit": "a kit", "last": "9 passed, 0 failed"}
+    GATE |= {"processors": 4, "machine": "a machine"}
 
     def told(self, program=PROGRAM, gate=None, are_same=False):
         """The lines of the file, by their names."""
@@ -154,13 +158,13 @@ class Proof(unittest.TestCase):
         text = (folder / "packed/PROOF").read_text()
         self.assertEqual(text, (folder / TOP / "share/doc/kbroker/PROOF").read_text())
         self.assertIn(f"sha256:    {hashlib.sha256(PROGRAM.read_bytes()).hexdigest()}\n", text)
-        begins = {dist_proof.UNPROVED: "no: nothing was proved", dist_proof.PROGRAM: "yes: "}.get(PROGRAM.resolve(), "unknown: ")
-        self.assertIn(f"proved:    {begins}", text)
+        built = {dist_proof.UNPROVED: "no: nothing was proved"} | ({} if what_lacks() else {dist_proof.PROGRAM: "yes: "})
+        self.assertIn(f"proved:    {built.get(PROGRAM.resolve(), 'unknown: ')}", text)
 
     def test_a_program_without_a_proof(self):
         """Whatever the gate says of the sources, nothing was proved of it."""
-        with mock.patch.object(dist_proof, "UNPROVED", PROGRAM.resolve()):
-            told = self.told(gate=self.GATE, are_same=True)
+        with mock.patch.object(dist_proof, "UNPROVED", Path("/bin/true").resolve()):
+            told = self.told(Path("/bin/true"), self.GATE, are_same=True)
         self.assertTrue(told["proved"].startswith("no: nothing was proved of this program"), told)
         self.assertNotIn("gate", told)
 
@@ -231,12 +235,6 @@ class First(Installed):
 
 
 class Command(unittest.TestCase):
-    @classmethod
-    def setUpClass(cls):
-        (folder / "path").mkdir()
-        for name in CALLED:
-            (folder / "path" / name).symlink_to(shutil.which(name))
-
     def assert_stops(self, broker, sent):
         """A client is served, and a signal stops the broker while it is connected: the last line comes, and the status is 0."""
         with broker, logged_in(broker.address) as client:
@@ -296,10 +294,12 @@ class Command(unittest.TestCase):
             with self.subTest(words=words):
                 told = run(top / "link", *words.split(), status=7, input="input\n", stdin=None)
                 self.assertEqual(told, f"{words} {limits}input\n")
-        with subprocess.Popen([top / "link", *serves.split()], stdout=subprocess.PIPE, encoding="utf-8") as stopped:
-            self.assertEqual(stopped.stdout.readline(), f"{serves} --stop-with-input {limits}")
-            stopped.send_signal(signal.SIGTERM)
-            self.assertEqual((stopped.communicate(timeout=WAIT)[0], stopped.returncode), ("", 7))
+        stopped = subprocess.Popen([top / "link", *serves.split()], stdout=subprocess.PIPE, encoding="utf-8")
+        self.addCleanup(stopped.wait)
+        self.addCleanup(stopped.kill)
+        self.assertEqual(stopped.stdout.readline(), f"{serves} --stop-with-input {limits}")
+        stopped.terminate()
+        self.assertEqual((stopped.communicate(timeout=WAIT)[0], stopped.returncode), ("", 7))
 
 
 # ---- where it is installed
