@@ -8,6 +8,7 @@ without a proof, which is compiled where it isn't built. The same sources and th
 
 import argparse
 import hashlib
+import os
 import platform
 import sys
 from datetime import datetime, time, timezone
@@ -57,7 +58,7 @@ def main():
     given.into.mkdir(parents=True, exist_ok=True)
     for name, data in packed(program).items():
         (given.into / name).write_bytes(data)
-        print(f"dist: {given.into / name}", file=sys.stderr)
+        print(f"dist: {os.path.relpath(given.into / name)}", file=sys.stderr)
 
 
 if __name__ == "__main__":

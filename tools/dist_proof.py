@@ -14,6 +14,8 @@ SOURCES = "crates", "crates.txt", "HANDLES"
 PROVED = "yes: the prover accepted each function of its crates, as they stand there, before it was built (`make prove`)"
 NOT_PROVED = "no: nothing was proved of this program. It was compiled without a proof (`make build`), with checks that make it slow"
 UNKNOWN = "unknown: it is neither what `make prove` nor what `make build` has built of what stands there"
+# What has to be known of a run of the gate.
+KNOWN = {"commit", "date", "kit", "last", "processors", "machine"}
 READ_ON = "docs/THEOREM.md says what is promised of a proved program, its premises, and what is trusted.\n"
 
 
@@ -24,11 +26,12 @@ def is_of(name, root=ROOT):
 
 
 def last_gate(file=TIMES):
-    """What the last `make verify` took and said, or None."""
+    """What is known of the last `make verify`, or None."""
     try:
-        return json.loads(file.read_text())
+        told = json.loads(file.read_text())
     except (FileNotFoundError, ValueError):
         return None
+    return told if KNOWN <= told.keys() else None
 
 
 def proved(program):

@@ -186,6 +186,15 @@ class Proof(unittest.TestCase):
                 self.assertEqual((told["proved"], told["gate"]), (dist_proof.PROVED, wanted))
                 self.assertEqual(told.get("gate run"), "2026-12-01, by a kit, on 4 processors (a machine)" if are_same else None)
 
+    def test_what_is_known_of_the_gate(self):
+        """All of it, or nothing: a file that an older gate wrote, or half of one, tells nothing."""
+        file = Path(self.enterContext(tempfile.TemporaryDirectory()), "gate.json")
+        self.assertIsNone(dist_proof.last_gate(file))
+        texts = json.dumps(self.GATE), json.dumps({"last": "9 passed, 0 failed"}), json.dumps(self.GATE)[:-1]
+        for text, wanted in zip(texts, (self.GATE, None, None)):
+            file.write_text(text)
+            self.assertEqual(dist_proof.last_gate(file), wanted)
+
     def test_sources_of_a_commit(self):
         """Pages may have changed since, and nothing of which the program is made."""
         top = Path(self.enterContext(tempfile.TemporaryDirectory()))
@@ -315,7 +324,7 @@ class Laid(unittest.TestCase):
         """All goes that came. The unit names the command as it is without DESTDIR."""
         make("install", f"DESTDIR={self.top}", "PREFIX=/opt/a b")
         self.assertLessEqual({f"opt/a b/{it}" for it in FILES}, {*files_below(self.top)})
-        self.assertIn("ExecStart=/opt/a b/bin/kbroker serve ", (self.top / "opt/a b/lib/systemd/system/kbroker.service").read_text())
+        self.assertIn('ExecStart="/opt/a b/bin/kbroker" serve ', (self.top / "opt/a b/lib/systemd/system/kbroker.service").read_text())
         self.assertEqual(run(self.top / "opt/a b/bin/kbroker", "--version"), f"kbroker {VERSION}\n")
         make("uninstall", f"DESTDIR={self.top}", "PREFIX=/opt/a b")
         self.assertEqual(files_below(self.top), [])
