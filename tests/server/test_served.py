@@ -407,19 +407,20 @@ class Operators(ServedCase):
 
     def test_unread_lines_hold_up_nobody(self):
         """Lines that nobody reads hold up no session and no marker. Those without room are left out, and their number is told."""
-        strangers, refused = 3_000, 100
+        strangers, refused = 3_000, 1_500  # whose lines fill the pipe, so that the others' wait behind them
         words = {"workers": 3, "connections": strangers + 2, "more": ("--audit", "-"), "errors": subprocess.PIPE}
         with ClockedKbroker(SETTINGS, **words) as server:
             with logged_in(server.address) as broker, logged_in(server.address, "ann", "pw") as reader:
-                self.ask_without_a_login(server, strangers)
                 for _ in range(refused):
                     self.produce(reader, b"x", code=Code.TOPIC_AUTHORIZATION_FAILED)
+                self.ask_without_a_login(server, strangers)
                 self.transact(broker, [b"kept"], True)
                 wait_for_markers(broker)
             settled, told = server.settled()
         self.assertEqual((settled.sessions, settled.refusals), (strangers + 2, refused))
         left_out = [int(found[1]) for found in map(LEFT_OUT.fullmatch, told) if found]
         lines = [line for line in told if not LEFT_OUT.fullmatch(line)]
+        self.assertEqual(sum(it.startswith("unmatched ") for it in lines), refused)
         asks = [asked(2 + number, f"asks api {1_000 + number} before its login") for number in range(strangers)]
         named = [line for line in lines if "asks api" in line]
         self.assertEqual(named, asks[: len(named)])
@@ -430,7 +431,7 @@ class Operators(ServedCase):
         self.assertIn(heard - ends, (0, 1))
         self.assertTrue(left_out)
         # (the lines that no more connections are taken, and how much was asked, may be left out too)
-        missing = 2 * strangers + refused - heard - ends
+        missing = 2 * strangers - heard - ends
         self.assertIn(sum(left_out) - missing, (0, 1, 2), (heard, ends, left_out))
 
     def test_a_full_trail_is_told(self):
