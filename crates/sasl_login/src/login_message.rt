@@ -53,7 +53,6 @@ fn split_plain(message: &[u8]) -> Option<Plain<'_>>
 /// The user whom a PLAIN message logs in: it has that user's name and password, and an authorization identity that is empty or
 /// the name. `None` where there is no such user. A message that is longer than each user's is looked at no further: else the work
 /// would grow with what is sent.
-#[tactic(auto, using(crate::proofs::Longest::too_long))]
 pub(crate) fn user_of<'u>(users: &'u Users, message: &[u8]) -> Option<&'u User>
     ensures { option_map (λ u. u.now) result ≡ user_of users.now message.now }
 {
