@@ -222,8 +222,9 @@ class Installed(BrokerProcess):
     def words(self, settings):
         return ["--settings", settings.name], subprocess.DEVNULL
 
-    def started(self, words, **more):
-        return super().started(words, env={"PATH": str(folder / "path"), "TMPDIR": "/none"}, **more)
+    def run(self, words, stdin):
+        bare = [shutil.which("env"), "-i", f"PATH={folder / 'path'}", "TMPDIR=/none"]
+        return super().run([*bare, *words], stdin)
 
     def command(self):
         """The number of the command's process."""
@@ -233,8 +234,8 @@ class Installed(BrokerProcess):
 class First(Installed):
     """The same, where the command is process 1."""
 
-    def started(self, words, **more):
-        return super().started([shutil.which(PROCESS_1[0]), *PROCESS_1[1:], *words], **more)
+    def run(self, words, stdin):
+        return super().run([shutil.which(PROCESS_1[0]), *PROCESS_1[1:], *words], stdin)
 
     def command(self):
         [child] = Path(f"/proc/{self.process.pid}/task/{self.process.pid}/children").read_text().split()

@@ -6,12 +6,15 @@ import subprocess
 import sys
 import sysconfig
 import tempfile
-import tomllib
 import unittest
 import venv
 from pathlib import Path
 
 from program import ROOT
+
+sys.path.insert(0, str(ROOT / "python"))
+
+import build_backend  # noqa: E402
 
 PROJECT = ROOT / "python/pyproject.toml"
 LIMIT = 300  # seconds, which no run of mypy takes
@@ -74,11 +77,10 @@ class Types(unittest.TestCase):
         builder = venv.EnvBuilder(symlinks=True)
         builder.create(self.folder / "venv")
         paths = sysconfig.get_paths("venv", {"base": str(self.folder / "venv"), "platbase": str(self.folder / "venv")})
-        installed = Path(paths["purelib"], "kbroker_testing")
-        shutil.copytree(ROOT / "python/kbroker_testing", installed, ignore=shutil.ignore_patterns("__pycache__", "*.typed"))
-        listed = tomllib.loads(PROJECT.read_text())["tool"]["setuptools"]["package-data"]["kbroker_testing"]
-        for name in listed:
-            shutil.copy(ROOT / "python/kbroker_testing" / name, installed)
+        for name, content in build_backend.sources().items():
+            file = Path(paths["purelib"], name)
+            file.parent.mkdir(exist_ok=True)
+            file.write_bytes(content)
         (self.folder / "user.py").write_text(USER)
         _, said = self.told("--python-executable", self.folder / "venv/bin/python", "user.py")
         lines = enumerate(USER.splitlines(), 1)
