@@ -29,7 +29,7 @@ pub(crate) fn is_gone(stream: &TcpStream) -> bool {
     }
 }
 
-/// One that counts among those of a holder, until this is dropped: a connection of its host, or a session of its user.
+/// A connection that counts among those of its host or network, until this is dropped.
 pub(crate) struct Counted<'x, R: Wait> {
     rt: &'x R,
     quota: &'x Mutex<Quota>,

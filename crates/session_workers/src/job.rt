@@ -6,7 +6,6 @@ ghost use Rattle.msg_admin.specs.declared.request.TheConstants.{FRAME_LIMIT as L
 use crate::pacing::Pacing;
 use crate::sessions::{Done, Unused};
 use crate::times::Noting;
-use admission::Quota;
 use deadlines::{Notes, Timed, TimedWriter, Times};
 use session_pool::{
     DeskLedger, Gate, Limits, ListedVersions, LockedDesk, LoginContext, SessionContext, Users,
@@ -15,7 +14,7 @@ use session_pool::{
 use std::alloc::Global;
 use std::io::{Read, Write};
 use std::net::{OpenStream, TcpStream};
-use std::sync::{Mutex, Wait};
+use std::sync::Wait;
 use std::time;
 use std::time::{Duration, Instant};
 use wire_types::{Shared, Text};
@@ -47,8 +46,8 @@ pub(crate) fn waited<T: time::Clock>(rt: &T, taken: Option<Instant>) -> Duration
     taken.elapsed(rt).unwrap_or(Duration::ZERO)
 }
 
-/// What all workers share: how versions are listed before a login, the desk, the gate and the doorman, what makes users wait that
-/// ask too fast, and how many sessions each has.
+/// What all workers share: how versions are listed before a login, the desk, the gate and the doorman, what holds users to
+/// how fast they may ask and how many sessions they may have.
 #[derive(Drop)]
 pub(crate) struct WorkerContext<'x, 'r, L: DeskLedger, R: Wait, G, D, T> {
     pub(crate) rt: &'x T,
@@ -58,8 +57,6 @@ pub(crate) struct WorkerContext<'x, 'r, L: DeskLedger, R: Wait, G, D, T> {
     pub(crate) gate: &'x G,
     pub(crate) doorman: &'x D,
     pub(crate) pacing: &'x Pacing<'r, T>,
-    /// How many sessions each user has; `None` where a user may have any number.
-    pub(crate) users: Option<&'x Mutex<Quota>>,
 }
 
 impl<'x, 'r, L: DeskLedger, R: Wait, G: Gate, D, T: Wait + time::Clock> WorkerContext<
@@ -93,8 +90,7 @@ impl<'x, 'r, L: DeskLedger, R: Wait, G: Gate, D, T: Wait + time::Clock> WorkerCo
         let notes = Notes::new();
         let reader = Timed::new(self.rt, reader, left, &notes);
         let mut writer = TimedWriter::new(self.rt, writer, left, &notes);
-        let peer = peer.as_ref().map(|peer| peer.value());
-        let noting = Noting::new(self, &notes, peer);
+        let noting = Noting::new(self.gate, &notes, self.pacing, peer);
         let context = SessionContext {
             session,
             login: LoginContext {

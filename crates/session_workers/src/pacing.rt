@@ -1,14 +1,14 @@
-//! Users that ask faster than they may.
+//! Users that ask faster than they may, or have more sessions than they may.
 
 use crate::guest::is_gone;
-use admission::{Load, Pace, Rate};
+use admission::{Load, Pace, Quota, Rate};
 use session_pool::ShutdownFlag;
-use std::alloc::Global;
+use std::alloc::{AllocError, Global};
 use std::net::TcpStream;
 use std::sync::{Mutex, Wait};
 use std::time::{Duration, Instant};
 use std::{thread, time};
-use wire_types::Text;
+use wire_types::{Shared, Text};
 
 /// How long a user that waits sleeps at most, before it is looked whether its peer is still there and further requests are read;
 /// in nanoseconds.
@@ -18,7 +18,8 @@ const NAP: u64 = 100_000_000;
 /// let go.
 const LONGEST: u64 = 10_000_000_000;
 
-/// Makes users wait that ask faster than they may, in all their sessions together, as long as further requests are read.
+/// Makes users wait that ask faster than they may, in all their sessions together, as long as further requests are read; and counts
+/// the sessions of each user, where a user may have so many.
 #[derive(Drop)]
 pub(crate) struct Pacing<'r, R> {
     rt: &'r R,
@@ -29,14 +30,20 @@ pub(crate) struct Pacing<'r, R> {
     start: Option<Instant>,
     /// Is set once no further request is read.
     reading: &'r ShutdownFlag,
+    /// Whether sessions are counted.
+    counts: bool,
+    /// How many sessions each user has.
+    users: Mutex<Quota>,
 }
 
 impl<'r, R: Wait + time::Clock> Pacing<'r, R> {
-    /// A pacing by this rate, by which no user has asked yet.
+    /// A pacing by this rate, by which no user has asked yet; `per_user` is how many sessions a user may have, `None` for any
+    /// number.
     pub(crate) fn new(
         rt: &'r R,
         alloc: Global,
         rate: Rate,
+        per_user: Option<u64>,
         reading: &'r ShutdownFlag,
     ) -> Pacing<'r, R> {
         let start = if rate.is_any() {
@@ -50,6 +57,8 @@ impl<'r, R: Wait + time::Clock> Pacing<'r, R> {
             pace: Mutex::new(Pace::new(alloc, rate)),
             start,
             reading,
+            counts: per_user.is_some(),
+            users: Mutex::new(Quota::new(alloc, per_user.unwrap_or(0))),
         }
     }
 
@@ -61,12 +70,18 @@ impl<'r, R: Wait + time::Clock> Pacing<'r, R> {
     }
 
     /// Whether a wait is over before its time: no further request is read, or the peer is gone.
-    fn is_cut(&self, peer: Option<&TcpStream>) -> bool {
-        self.reading.is_closed() || peer.is_some_and(is_gone)
+    fn is_cut(&self, peer: &Option<Shared<TcpStream>>) -> bool {
+        if self.reading.is_closed() {
+            return true;
+        }
+        match peer {
+            Some(stream) => is_gone(stream.value()),
+            None => false,
+        }
     }
 
     /// Sleeps for so many nanoseconds, or until the wait is cut, which is looked at every 100 milliseconds.
-    fn sleep(&self, time: u64, peer: Option<&TcpStream>) {
+    fn sleep(&self, time: u64, peer: &Option<Shared<TcpStream>>) {
         for _ in 0..time / NAP {
             if self.is_cut(peer) {
                 return;
@@ -80,7 +95,7 @@ impl<'r, R: Wait + time::Clock> Pacing<'r, R> {
     /// whether the session goes on: it doesn't where the user would have to wait for more than ten seconds, and then it isn't
     /// made to. It goes on at once, and nothing is charged, where there is no rate, the clock can't be read, or an allocation
     /// fails.
-    pub(crate) fn pause(&self, user: &Text, load: Load, peer: Option<&TcpStream>) -> bool {
+    pub(crate) fn pause(&self, user: &Text, load: Load, peer: &Option<Shared<TcpStream>>) -> bool {
         let Some(now) = self.now() else {
             return true;
         };
@@ -93,5 +108,21 @@ impl<'r, R: Wait + time::Clock> Pacing<'r, R> {
         }
         self.sleep(wait, peer);
         true
+    }
+
+    /// Counts one more session of a user, where sessions are counted. Gives false, and counts nothing, where the user has as many
+    /// as it may. The error is an allocation failure, which counts nothing.
+    pub(crate) fn enter(&self, user: &Text) -> Result<bool, AllocError> {
+        if !self.counts {
+            return Ok(true);
+        }
+        self.users.lock(self.rt).enter(self.alloc, user)
+    }
+
+    /// Counts one session of a user less, where sessions are counted.
+    pub(crate) fn leave(&self, user: &Text) {
+        if self.counts {
+            self.users.lock(self.rt).leave(user);
+        }
     }
 }

@@ -1,21 +1,19 @@
 //! A session's gate: it notes that the user is known, makes the session wait or ends it, and says that the peer took too long.
 
-use crate::guest::Counted;
-use crate::job::WorkerContext;
 use crate::markers::markers_of;
 use crate::pacing::Pacing;
-use admission::{Load, Quota};
+use admission::Load;
 use deadlines::{Limit, Notes, Times};
 use request_handlers::Receipt;
-use session_pool::{DeskLedger, EndReason, Gate, SessionEnd};
+use session_pool::{EndReason, Gate, SessionEnd};
 use std::alloc::Global;
 use std::cell::{Cell, OnceCell};
 use std::net::TcpStream;
 use std::str::from_utf8;
-use std::sync::{Mutex, Wait};
+use std::sync::Wait;
 use std::time;
 use std::time::Duration;
-use wire_types::{Bytes, Text};
+use wire_types::{Bytes, Shared, Text};
 
 /// Why the server ends a session whose user is known.
 #[derive(Clone, Copy, Debug, PartialEq, Eq)]
@@ -45,41 +43,35 @@ impl Closing {
 /// much too fast, makes it wait after a frame where the user asks faster than it may, and leaves all else to the gate of all
 /// sessions.
 #[derive(Drop)]
-pub(crate) struct Noting<'x, 'r, G, R: Wait> {
-    rt: &'x R,
-    alloc: Global,
+pub(crate) struct Noting<'x, 'r, G, R> {
     gate: &'x G,
     notes: &'x Notes,
     pacing: &'x Pacing<'r, R>,
-    /// How many sessions each user has; `None` where a user may have any number.
-    users: Option<&'x Mutex<Quota>>,
     /// The session's connection, if it has one.
-    peer: Option<&'x TcpStream>,
+    peer: Option<Shared<TcpStream>>,
     who: OnceCell<Text>,
-    /// The session among those of its user.
-    counted: OnceCell<Counted<'x, R>>,
+    /// Whether the session counts among those of its user.
+    counted: Cell<bool>,
     /// How many markers the session's last request comes to.
     markers: Cell<u64>,
     closing: Cell<Option<Closing>>,
 }
 
-impl<'x, 'r, G, R: Wait> Noting<'x, 'r, G, R> {
+impl<'x, 'r, G, R> Noting<'x, 'r, G, R> {
     /// The gate of a session over this connection, whose user isn't known yet.
-    pub(crate) fn new<L: DeskLedger, W: Wait, D>(
-        context: &WorkerContext<'x, 'r, L, W, G, D, R>,
+    pub(crate) fn new(
+        gate: &'x G,
         notes: &'x Notes,
-        peer: Option<&'x TcpStream>,
+        pacing: &'x Pacing<'r, R>,
+        peer: Option<Shared<TcpStream>>,
     ) -> Noting<'x, 'r, G, R> {
         Noting {
-            rt: context.rt,
-            alloc: context.alloc,
-            gate: context.gate,
+            gate,
             notes,
-            pacing: context.pacing,
-            users: context.users,
+            pacing,
             peer,
             who: OnceCell::new(),
-            counted: OnceCell::new(),
+            counted: Cell::new(false),
             markers: Cell::new(0),
             closing: Cell::new(None),
         }
@@ -96,20 +88,6 @@ impl<'x, 'r, G, R: Wait> Noting<'x, 'r, G, R> {
         self.notes.close();
     }
 
-    /// Counts the session among those of its user, where these are counted; ends it, where the user has as many as it may.
-    fn enter(&self, who: &Text) {
-        let Some(users) = self.users else {
-            return;
-        };
-        match Counted::enter(self.rt, self.alloc, users, who) {
-            Ok(Some(counted)) => {
-                let _another = self.counted.set(counted);
-            }
-            Ok(None) => self.close(Closing::UserIsFull),
-            Err(_) => self.close(Closing::NoMemory),
-        }
-    }
-
     /// What the session's last request is charged for, which is noted no longer.
     fn take_load(&self) -> Load {
         let markers = self.markers.get();
@@ -121,9 +99,25 @@ impl<'x, 'r, G, R: Wait> Noting<'x, 'r, G, R> {
     }
 }
 
-impl<'x, 'r, G: Gate, R: Wait> Noting<'x, 'r, G, R> {
+impl<'x, 'r, G: Gate, R: Wait + time::Clock> Noting<'x, 'r, G, R> {
+    /// Counts the session among those of its user; ends it, where the user has as many as it may, or an allocation fails for that.
+    fn enter(&self, who: &Text) {
+        match self.pacing.enter(who) {
+            Ok(true) => self.counted.set(self.who().is_some()),
+            Ok(false) => self.close(Closing::UserIsFull),
+            Err(_) => self.close(Closing::NoMemory),
+        }
+    }
+
+    /// Takes the session from those of its user, if it counts among them.
+    fn leave(&self) {
+        if let (Some(who), true) = (self.who(), self.counted.get()) {
+            self.pacing.leave(who);
+        }
+    }
+
     /// Tells the gate of all sessions that the session has ended, and why; in words, by `ended_as`, where more is known of the
-    /// reason than `end.why`.
+    /// reason than `end.why`. From here on the session doesn't count among those of its user.
     pub(crate) fn tell_end<S>(
         &self,
         alloc: Global,
@@ -132,6 +126,7 @@ impl<'x, 'r, G: Gate, R: Wait> Noting<'x, 'r, G, R> {
         times: Times,
         end: &SessionEnd<S>,
     ) {
+        self.leave();
         let who = self.who();
         if let Some(closing) = self.closing.get() {
             return self
@@ -177,7 +172,7 @@ impl<'x, 'r, G: Gate, R: Wait + time::Clock> Gate for Noting<'x, 'r, G, R> {
         self.gate.after(session, frame);
         let load = self.take_load();
         if let (Some(who), None) = (self.who(), self.closing.get()) {
-            if !self.pacing.pause(who, load, self.peer) {
+            if !self.pacing.pause(who, load, &self.peer) {
                 self.close(Closing::TooFast);
             }
         }

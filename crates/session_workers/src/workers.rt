@@ -9,15 +9,15 @@ use crate::job::{Job, WorkerContext, waited};
 use crate::keeper::keep;
 use crate::pacing::Pacing;
 use crate::sessions::{Ended, Sessions, Unused};
-use admission::{Doorman, Quota, Rate};
+use admission::{Doorman, Rate};
 use crossbeam_channel::Receiver;
 use request_handlers::Seat;
 use session_pool::{DeskLedger, Gate, ListedVersions, LockedDesk, ShutdownFlag, Steps};
 use std::alloc::{AllocError, Global};
 use std::io::{Read, Write};
 use std::net::OpenStream;
+use std::sync::Wait;
 use std::sync::atomic::{AtomicU64, Ordering};
-use std::sync::{Mutex, Wait};
 use std::thread::{JoinHandle, Threads};
 use std::{thread, time};
 use thiserror::Error;
@@ -257,8 +257,7 @@ pub fn serve_all<
         rate,
     } = server.options;
     let running = AtomicU64::new(0);
-    let users = Mutex::new(Quota::new(alloc, per_user.unwrap_or(0)));
-    let pacing = Pacing::new(rt, alloc, rate, server.reading);
+    let pacing = Pacing::new(rt, alloc, rate, per_user, server.reading);
     let context = WorkerContext {
         rt,
         alloc,
@@ -267,7 +266,6 @@ pub fn serve_all<
         gate: server.gate,
         doorman: server.doorman,
         pacing: &pacing,
-        users: per_user.map(|_| &users),
     };
     serve_lent(&context, &jobs, &running, workers, steps)
 }
