@@ -14,3 +14,4 @@ pub mod Reached
 pub mod Completed
 pub mod GroupsKeep
 pub mod Rows
+pub mod Wrong

@@ -23,7 +23,7 @@ use Rattle.txn_coordinator.specs.declared.transaction.TransactionState.TheVarian
 use Rattle.txn_coordinator.specs.declared.ending.EndForm.{EndForm}
 use Rattle.txn_coordinator.specs.declared.ending.EndForm.TheVariants.{Plain, Fencing, Raising}
 use Rattle.txn_coordinator.specs.Words.{is_empty, is_same_producer, with_next_epoch, next_id_and_epoch, given_after, last_epoch, targets, is_same_partition, has_partition, has_group}
-use Rattle.txn_coordinator.specs.Coordinator.{CoordinatorValue, has_id, id_record, records_with, fresh_producer_id, transition_code, apply_transition, id_and_epoch_answer, transition_answer}
+use Rattle.txn_coordinator.specs.Coordinator.{CoordinatorValue, has_id, id_record, fresh_producer_id, transition_code, apply_transition, id_and_epoch_answer, transition_answer}
 use Rattle.txn_coordinator.specs.Preparing.{markers, marker_for, producer_refusal}
 use Rattle.txn_coordinator.specs.EndTxn.{other_epoch, renewal_transition, end_in, is_kept, is_again, end_again, end_by, end_found, end}
 use Rattle.txn_coordinator.specs.Adding.{partition_added, partitions_added, with_partitions, group_added, with_group, begun_transaction, open_in, open_by, open_found, open_transaction, growth_transition, add_partitions, add_group}
@@ -250,7 +250,7 @@ renewed_pair : (c : CoordinatorValue) (id : List ℕ) (t : Transaction) (transit
 renewed_pair c id t transition own (state, owed, is) =
     next_is c t.pair _ (ap (λ (u : Transition). (transition_answer c id u).pair) is ∙ answered_own c id (record t { pair = next_id_and_epoch t.pair (fresh_producer_id c); state = state; kept = Some t.pair }) (given_after t.pair t.id) owed own)
 
-pub ends : EndTable
+pub ends : EndTable end
 ends c form id pair outcome t h =
     let same = goes_by_state c form id pair outcome t h in
     record {
@@ -294,7 +294,7 @@ closed_begins PrepareAbort t next n h = absurd h
 begun_pair : (c : CoordinatorValue) (id : List ℕ) (t : Transaction) (n : ℕ) → has_id id t ≡ true → (transition_answer c id (begin_transition t (fresh_producer_id c) n)).pair ≡ next_id_and_epoch t.pair (fresh_producer_id c)
 begun_pair c id t n own = answered_own c id (record t { pair = next_id_and_epoch t.pair (fresh_producer_id c); timeout = n; state = Empty; kept = None }) (given_after t.pair t.id) [] own
 
-known : (c : CoordinatorValue) (id : List ℕ) (n : ℕ) (greatest : ℤ) (t : Transaction) → id ≢ [] → 1 ≤ n → pos n ≤ℤ greatest → id_record c.transactions id ≡ Some t → InitsByTable c id (pos n) greatest t
+known : (c : CoordinatorValue) (id : List ℕ) (n : ℕ) (greatest : ℤ) (t : Transaction) → id ≢ [] → 1 ≤ n → pos n ≤ℤ greatest → id_record c.transactions id ≡ Some t → InitsByTable init c id (pos n) greatest t
 known c id n greatest t named low high found =
     let same = inits_for c id n greatest (Some t) named low high found in
     record {
@@ -306,7 +306,7 @@ zero_is : number_of errors.None ≡ pos 0
 unfolding number_of
 zero_is = refl
 
-new : (c : CoordinatorValue) (id : List ℕ) (n : ℕ) (greatest : ℤ) → id ≢ [] → 1 ≤ n → pos n ≤ℤ greatest → id_record c.transactions id ≡ None → InitsNew c id (pos n) greatest
+new : (c : CoordinatorValue) (id : List ℕ) (n : ℕ) (greatest : ℤ) → id ≢ [] → 1 ≤ n → pos n ≤ℤ greatest → id_record c.transactions id ≡ None → InitsNew init c id (pos n) greatest
 new c id n greatest named low high found =
     let same = inits_for c id n greatest None named low high found in
     let pair : (transition_answer c id (init c id (pos n) greatest)).pair ≡ record { producer = fresh_producer_id c; epoch = pos 0 } =
@@ -317,7 +317,7 @@ new c id n greatest named low high found =
       epoch = ap (λ (p : ProducerIdAndEpoch). p.epoch) pair;
     }
 
-pub inits : InitTable
+pub inits : InitTable init
 inits = record { known = known; new = new }
 
 -- ---- AddPartitionsToTxn
@@ -478,7 +478,7 @@ takes Ongoing c id moment ps t is own h = record {
 takes PrepareCommit c id moment ps t is own h = absurd (no_code h)
 takes PrepareAbort c id moment ps t is own h = absurd (no_code h)
 
-pub adds : AddTable
+pub adds : AddTable add_partitions
 adds c id pair moment p ps t named found own low =
     let same = ap (growth_transition (with_partitions (p ∷ ps))) (opens c id pair moment t named found own low) in
     record {
@@ -523,7 +523,7 @@ takes_group Ongoing c id moment group t is own h = record {
 takes_group PrepareCommit c id moment group t is own h = absurd (no_code h)
 takes_group PrepareAbort c id moment group t is own h = absurd (no_code h)
 
-pub adds_group : GroupTable
+pub adds_group : GroupTable add_group
 adds_group c id pair moment group t named found own low =
     let same = ap (growth_transition (with_group group)) (opens c id pair moment t named found own low) in
     record {

@@ -10,17 +10,16 @@ use Rattle.wire_types.specs.ErrorCode.{number_of}
 use Rattle.record_batch.specs.declared.transaction_result.TransactionResult.{TransactionResult}
 use Rattle.record_batch.specs.declared.transaction_result.TransactionResult.TheVariants.{Commit, Abort}
 use Rattle.txn_coordinator.specs.declared.producer_id.ProducerIdAndEpoch.{ProducerIdAndEpoch}
-use Rattle.txn_coordinator.specs.declared.target.TopicPartition.{TopicPartition}
 use Rattle.txn_coordinator.specs.Transition.{Transition, Stays}
 use Rattle.txn_coordinator.specs.declared.transaction.Transaction.{Transaction}
 use Rattle.txn_coordinator.specs.declared.transaction.TransactionState.{TransactionState}
 use Rattle.txn_coordinator.specs.declared.transaction.TransactionState.TheVariants.{Empty, Ongoing, PrepareCommit, PrepareAbort, CompleteCommit, CompleteAbort}
 use Rattle.txn_coordinator.specs.declared.ending.EndForm.{EndForm}
 use Rattle.txn_coordinator.specs.declared.ending.EndForm.TheVariants.{Plain, Fencing, Raising}
-use Rattle.txn_coordinator.specs.Words.{is_same_producer, last_epoch}
+use Rattle.txn_coordinator.specs.Words.{last_epoch}
 use Rattle.txn_coordinator.specs.Coordinator.{CoordinatorValue, id_record, fresh_producer_id, transition_code, apply_transition}
 use Rattle.txn_coordinator.specs.Preparing.{producer_refusal}
-use Rattle.txn_coordinator.specs.EndTxn.{other_epoch, is_kept, is_again, end_again, end_by, end_found, end}
+use Rattle.txn_coordinator.specs.EndTxn.{other_epoch, is_kept, end_again, end_by, end_found, end}
 use Rattle.txn_coordinator.specs.Adding.{with_partitions, with_group, open_by, open_found, open_transaction, growth_transition, add_partitions, add_group}
 use Rattle.txn_coordinator.specs.InitProducerId.{timeout_within, init_for, init}
 use Rattle.txn_laws.specs.TurnedAway.{IsTold, IsOfOtherEpoch, epoch_number, again_number, EmptyId, UnknownId, OtherProducer, OtherEpoch, TurnsAwayByTable}
@@ -162,42 +161,42 @@ timed_out c id timeout greatest named h =
 
 -- ---- the table
 
-empty_id : EmptyId
+empty_id : EmptyId init add_partitions add_group end
 empty_id = record {
-  init = λ c timeout greatest. told (pos 42) c _ errors.InvalidRequest refl numbered_42;
-  add = λ c pair moment p ps. told (pos 42) c _ errors.InvalidRequest refl numbered_42;
-  group = λ c pair moment g. told (pos 42) c _ errors.InvalidRequest refl numbered_42;
-  end = λ c form pair outcome. told (pos 42) c _ errors.InvalidRequest refl numbered_42;
+  inits = λ c timeout greatest. told (pos 42) c _ errors.InvalidRequest refl numbered_42;
+  adds = λ c pair moment p ps. told (pos 42) c _ errors.InvalidRequest refl numbered_42;
+  groups = λ c pair moment g. told (pos 42) c _ errors.InvalidRequest refl numbered_42;
+  ends = λ c form pair outcome. told (pos 42) c _ errors.InvalidRequest refl numbered_42;
 }
 
-unknown_id : UnknownId
+unknown_id : UnknownId add_partitions add_group end
 unknown_id = record {
-  add = λ c id pair moment p ps named none. told (pos 49) c _ errors.InvalidProducerIdMapping (ap (growth_transition (with_partitions (p ∷ ps))) (opens_none c id pair moment named none)) numbered_49;
-  group = λ c id pair moment g named none. told (pos 49) c _ errors.InvalidProducerIdMapping (ap (growth_transition (with_group g)) (opens_none c id pair moment named none)) numbered_49;
-  end = λ c form id pair outcome named none. told (pos 49) c _ errors.InvalidProducerIdMapping (ends_none c form id pair outcome named none) numbered_49;
+  adds = λ c id pair moment p ps named none. told (pos 49) c _ errors.InvalidProducerIdMapping (ap (growth_transition (with_partitions (p ∷ ps))) (opens_none c id pair moment named none)) numbered_49;
+  groups = λ c id pair moment g named none. told (pos 49) c _ errors.InvalidProducerIdMapping (ap (growth_transition (with_group g)) (opens_none c id pair moment named none)) numbered_49;
+  ends = λ c form id pair outcome named none. told (pos 49) c _ errors.InvalidProducerIdMapping (ends_none c form id pair outcome named none) numbered_49;
 }
 
-of_other_producer : OtherProducer
+of_other_producer : OtherProducer add_partitions add_group end
 of_other_producer = record {
-  add = λ c id pair moment p ps t named found other.
+  adds = λ c id pair moment p ps t named found other.
       told (pos 49) c _ errors.InvalidProducerIdMapping (ap (growth_transition (with_partitions (p ∷ ps))) (opens_refused c id pair moment t _ named found (other_producer errors.InvalidProducerEpoch t pair other))) numbered_49;
-  group = λ c id pair moment g t named found other.
+  groups = λ c id pair moment g t named found other.
       told (pos 49) c _ errors.InvalidProducerIdMapping (ap (growth_transition (with_group g)) (opens_refused c id pair moment t _ named found (other_producer errors.InvalidProducerEpoch t pair other))) numbered_49;
-  end = λ c form id pair outcome t named found new other.
+  ends = λ c form id pair outcome t named found new other.
       told (pos 49) c _ errors.InvalidProducerIdMapping (ends_refused c form id pair outcome t _ named found new (other_producer (other_epoch form) t pair other)) numbered_49;
 }
 
-of_other_epoch : OtherEpoch
+of_other_epoch : OtherEpoch add_partitions add_group end
 of_other_epoch = record {
-  add = λ c id pair moment p ps t named found other.
+  adds = λ c id pair moment p ps t named found other.
       told (pos 47) c _ errors.InvalidProducerEpoch (ap (growth_transition (with_partitions (p ∷ ps))) (opens_refused c id pair moment t _ named found (other_epoch_refused errors.InvalidProducerEpoch t pair other))) numbered_47;
-  group = λ c id pair moment g t named found other.
+  groups = λ c id pair moment g t named found other.
       told (pos 47) c _ errors.InvalidProducerEpoch (ap (growth_transition (with_group g)) (opens_refused c id pair moment t _ named found (other_epoch_refused errors.InvalidProducerEpoch t pair other))) numbered_47;
-  end = λ c form id pair outcome t named found new other.
+  ends = λ c form id pair outcome t named found new other.
       told (epoch_number form) c _ (other_epoch form) (ends_refused c form id pair outcome t _ named found new (other_epoch_refused (other_epoch form) t pair other)) (epoch_numbered form);
 }
 
-pub turns_away : TurnsAwayByTable
+pub turns_away : TurnsAwayByTable init add_partitions add_group end
 turns_away = record {
   empty = empty_id;
   unknown = unknown_id;

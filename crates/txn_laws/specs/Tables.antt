@@ -13,11 +13,8 @@ use Rattle.txn_coordinator.specs.declared.transaction.TransactionState.TheVarian
 use Rattle.txn_coordinator.specs.declared.ending.EndForm.{EndForm}
 use Rattle.txn_coordinator.specs.declared.ending.EndForm.TheVariants.{Plain, Fencing, Raising}
 use Rattle.txn_coordinator.specs.Coordinator.{CoordinatorValue, id_record, transition_code, apply_transition, transition_answer}
-use Rattle.txn_coordinator.specs.EndTxn.{end}
-use Rattle.txn_coordinator.specs.InitProducerId.{init}
 use Rattle.txn_coordinator.specs.declared.target.TopicPartition.{TopicPartition}
 use Rattle.txn_coordinator.specs.Transition.{Transition}
-use Rattle.txn_coordinator.specs.Adding.{add_partitions, add_group}
 use Rattle.txn_laws.specs.Sound.{IsAmong}
 
 -- ---- EndTxn
@@ -93,7 +90,12 @@ pub record ComesWithOwn (c : CoordinatorValue) (id : List ℕ) (pair : ProducerI
   pub low : t.pair.epoch <ℤ pos 32767
   pub new : t.kept ≢ Some pair
 
-pub record EndsByTable (c : CoordinatorValue) (form : EndForm) (id : List ℕ)
+-- what an EndTxn comes to
+abbrev pub EndRule : Type 0
+EndRule =
+    CoordinatorValue → EndForm → List ℕ → ProducerIdAndEpoch → TransactionResult → Transition
+
+pub record EndsByTable (end : EndRule) (c : CoordinatorValue) (form : EndForm) (id : List ℕ)
     (pair : ProducerIdAndEpoch) (outcome : TransactionResult) (t : Transaction) : Type 0 where
   pub code : number_of (transition_code (end c form id pair outcome))
       ≡ end_code form t.state outcome
@@ -102,13 +104,20 @@ pub record EndsByTable (c : CoordinatorValue) (form : EndForm) (id : List ℕ)
   pub renewed : IsRenewing form t.state outcome
       → IsNext c t.pair (transition_answer c id (end c form id pair outcome)).pair
 
-abbrev pub EndTable : Type 0
-EndTable =
+-- an EndTxn with the id's own producer id and epoch: its code, the markers that it leaves pending,
+-- and the pair that comes next
+abbrev pub EndTable : EndRule → Type 0
+EndTable end =
     (c : CoordinatorValue) (form : EndForm) (id : List ℕ) (pair : ProducerIdAndEpoch)
     (outcome : TransactionResult) (t : Transaction)
-    → ComesWithOwn c id pair t → EndsByTable c form id pair outcome t
+    → ComesWithOwn c id pair t → EndsByTable end c form id pair outcome t
 
 -- ---- InitProducerId
+
+-- what an InitProducerId comes to: by the coordinator, the id, the timeout that is asked for, and
+-- the greatest one
+abbrev pub InitRule : Type 0
+InitRule = CoordinatorValue → List ℕ → ℤ → ℤ → Transition
 
 abbrev pub init_code : TransactionState → ℤ
 init_code Empty = pos 0
@@ -127,25 +136,28 @@ IsClosed PrepareCommit = ⊥
 IsClosed PrepareAbort = ⊥
 
 -- an id that has a record: what is closed gets the next pair, anything else is waited for
-pub record InitsByTable (c : CoordinatorValue) (id : List ℕ) (timeout greatest : ℤ)
-    (t : Transaction) : Type 0 where
+pub record InitsByTable (init : InitRule) (c : CoordinatorValue) (id : List ℕ)
+    (timeout greatest : ℤ) (t : Transaction) : Type 0 where
   pub code : number_of (transition_code (init c id timeout greatest)) ≡ init_code t.state
   pub next : IsClosed t.state
       → IsNext c t.pair (transition_answer c id (init c id timeout greatest)).pair
 
 -- a new id gets the next producer id, in epoch 0
-pub record InitsNew (c : CoordinatorValue) (id : List ℕ) (timeout greatest : ℤ) : Type 0 where
+pub record InitsNew (init : InitRule) (c : CoordinatorValue) (id : List ℕ)
+    (timeout greatest : ℤ) : Type 0 where
   pub code : number_of (transition_code (init c id timeout greatest)) ≡ pos 0
   pub producer : (transition_answer c id (init c id timeout greatest)).pair.producer
       ≡ pos (length c.given)
   pub epoch : (transition_answer c id (init c id timeout greatest)).pair.epoch ≡ pos 0
 
-pub record InitTable : Type 0 where
+-- an InitProducerId with a transactional id and a timeout in range: its code, and the pair that it
+-- gives
+pub record InitTable (init : InitRule) : Type 0 where
   pub known : (c : CoordinatorValue) (id : List ℕ) (n : ℕ) (greatest : ℤ) (t : Transaction)
       → id ≢ [] → 1 ≤ n → pos n ≤ℤ greatest → id_record c.transactions id ≡ Some t
-      → InitsByTable c id (pos n) greatest t
+      → InitsByTable init c id (pos n) greatest t
   pub new : (c : CoordinatorValue) (id : List ℕ) (n : ℕ) (greatest : ℤ) → id ≢ [] → 1 ≤ n
-      → pos n ≤ℤ greatest → id_record c.transactions id ≡ None → InitsNew c id (pos n) greatest
+      → pos n ≤ℤ greatest → id_record c.transactions id ≡ None → InitsNew init c id (pos n) greatest
 
 -- ---- AddPartitionsToTxn
 
@@ -175,19 +187,26 @@ pub record TakesIn (c : CoordinatorValue) (id : List ℕ) (moment : ℕ) (ps : L
   pub partitions : AddsEach t.partitions ps transaction.partitions
   pub groups : transaction.groups ≡ t.groups
 
-pub record AddsByTable (c : CoordinatorValue) (id : List ℕ) (pair : ProducerIdAndEpoch) (moment : ℕ)
-    (ps : List TopicPartition) (t : Transaction) : Type 0 where
+-- what an AddPartitionsToTxn comes to, at this moment
+abbrev pub AddRule : Type 0
+AddRule =
+    CoordinatorValue → List ℕ → ProducerIdAndEpoch → ℕ → List TopicPartition → Transition
+
+pub record AddsByTable (add_partitions : AddRule) (c : CoordinatorValue) (id : List ℕ)
+    (pair : ProducerIdAndEpoch) (moment : ℕ) (ps : List TopicPartition) (t : Transaction)
+    : Type 0 where
   pub code : number_of (transition_code (add_partitions c id pair moment ps)) ≡ add_code t.state
   pub taken : add_code t.state ≡ pos 0
       → TakesIn c id moment ps t (add_partitions c id pair moment ps)
 
--- where some partition is named
-abbrev pub AddTable : Type 0
-AddTable =
+-- an AddPartitionsToTxn with the id's own producer id and epoch, of one partition or more: its
+-- code, and what the transaction then takes in
+abbrev pub AddTable : AddRule → Type 0
+AddTable add_partitions =
     (c : CoordinatorValue) (id : List ℕ) (pair : ProducerIdAndEpoch) (moment : ℕ)
     (p : TopicPartition) (ps : List TopicPartition) (t : Transaction)
     → id ≢ [] → id_record c.transactions id ≡ Some t → pair ≡ t.pair → t.pair.epoch <ℤ pos 32767
-    → AddsByTable c id pair moment (p ∷ ps) t
+    → AddsByTable add_partitions c id pair moment (p ∷ ps) t
 
 -- ---- AddOffsetsToTxn
 
@@ -203,15 +222,20 @@ pub record TakesGroupIn (c : CoordinatorValue) (id : List ℕ) (moment : ℕ) (g
   pub groups : AddsEach t.groups (group ∷ []) transaction.groups
   pub partitions : transaction.partitions ≡ t.partitions
 
-pub record AddsGroupByTable (c : CoordinatorValue) (id : List ℕ) (pair : ProducerIdAndEpoch)
-    (moment : ℕ) (group : List ℕ) (t : Transaction) : Type 0 where
+-- what an AddOffsetsToTxn comes to, at this moment
+abbrev pub GroupRule : Type 0
+GroupRule = CoordinatorValue → List ℕ → ProducerIdAndEpoch → ℕ → List ℕ → Transition
+
+pub record AddsGroupByTable (add_group : GroupRule) (c : CoordinatorValue) (id : List ℕ)
+    (pair : ProducerIdAndEpoch) (moment : ℕ) (group : List ℕ) (t : Transaction) : Type 0 where
   pub code : number_of (transition_code (add_group c id pair moment group)) ≡ add_code t.state
   pub taken : add_code t.state ≡ pos 0
       → TakesGroupIn c id moment group t (add_group c id pair moment group)
 
-abbrev pub GroupTable : Type 0
-GroupTable =
+-- the same of an AddOffsetsToTxn and its group
+abbrev pub GroupTable : GroupRule → Type 0
+GroupTable add_group =
     (c : CoordinatorValue) (id : List ℕ) (pair : ProducerIdAndEpoch) (moment : ℕ) (group : List ℕ)
     (t : Transaction)
     → id ≢ [] → id_record c.transactions id ≡ Some t → pair ≡ t.pair → t.pair.epoch <ℤ pos 32767
-    → AddsGroupByTable c id pair moment group t
+    → AddsGroupByTable add_group c id pair moment group t

@@ -15,9 +15,7 @@ use Rattle.txn_coordinator.specs.declared.ending.EndForm.{EndForm}
 use Rattle.txn_coordinator.specs.declared.ending.EndForm.TheVariants.{Plain, Fencing, Raising}
 use Rattle.txn_coordinator.specs.Transition.{Transition}
 use Rattle.txn_coordinator.specs.Coordinator.{CoordinatorValue, id_record, transition_code, apply_transition}
-use Rattle.txn_coordinator.specs.EndTxn.{end}
-use Rattle.txn_coordinator.specs.InitProducerId.{init}
-use Rattle.txn_coordinator.specs.Adding.{add_partitions, add_group}
+use Rattle.txn_laws.specs.Tables.{InitRule, AddRule, GroupRule, EndRule}
 
 -- it is told the code of this number, and changes nothing
 pub record IsTold (number : ℤ) (c : CoordinatorValue) (transition : Transition) : Type 0 where
@@ -51,68 +49,74 @@ again_number CompleteAbort Commit = pos 48
 again_number CompleteAbort Abort = pos 0
 
 -- the empty id
-pub record EmptyId : Type 0 where
-  pub init : (c : CoordinatorValue) (timeout greatest : ℤ)
+pub record EmptyId (init : InitRule) (add_partitions : AddRule) (add_group : GroupRule)
+    (end : EndRule) : Type 0 where
+  pub inits : (c : CoordinatorValue) (timeout greatest : ℤ)
       → IsTold (pos 42) c (init c [] timeout greatest)
-  pub add : (c : CoordinatorValue) (pair : ProducerIdAndEpoch) (moment : ℕ) (p : TopicPartition)
+  pub adds : (c : CoordinatorValue) (pair : ProducerIdAndEpoch) (moment : ℕ) (p : TopicPartition)
       (ps : List TopicPartition)
       → IsTold (pos 42) c (add_partitions c [] pair moment (p ∷ ps))
-  pub group : (c : CoordinatorValue) (pair : ProducerIdAndEpoch) (moment : ℕ) (g : List ℕ)
+  pub groups : (c : CoordinatorValue) (pair : ProducerIdAndEpoch) (moment : ℕ) (g : List ℕ)
       → IsTold (pos 42) c (add_group c [] pair moment g)
-  pub end : (c : CoordinatorValue) (form : EndForm) (pair : ProducerIdAndEpoch)
+  pub ends : (c : CoordinatorValue) (form : EndForm) (pair : ProducerIdAndEpoch)
       (outcome : TransactionResult)
       → IsTold (pos 42) c (end c form [] pair outcome)
 
 -- an id that has no record
-pub record UnknownId : Type 0 where
-  pub add : (c : CoordinatorValue) (id : List ℕ) (pair : ProducerIdAndEpoch) (moment : ℕ)
+pub record UnknownId (add_partitions : AddRule) (add_group : GroupRule) (end : EndRule)
+    : Type 0 where
+  pub adds : (c : CoordinatorValue) (id : List ℕ) (pair : ProducerIdAndEpoch) (moment : ℕ)
       (p : TopicPartition) (ps : List TopicPartition)
       → id ≢ [] → id_record c.transactions id ≡ None
       → IsTold (pos 49) c (add_partitions c id pair moment (p ∷ ps))
-  pub group : (c : CoordinatorValue) (id : List ℕ) (pair : ProducerIdAndEpoch) (moment : ℕ)
+  pub groups : (c : CoordinatorValue) (id : List ℕ) (pair : ProducerIdAndEpoch) (moment : ℕ)
       (g : List ℕ)
       → id ≢ [] → id_record c.transactions id ≡ None
       → IsTold (pos 49) c (add_group c id pair moment g)
-  pub end : (c : CoordinatorValue) (form : EndForm) (id : List ℕ) (pair : ProducerIdAndEpoch)
+  pub ends : (c : CoordinatorValue) (form : EndForm) (id : List ℕ) (pair : ProducerIdAndEpoch)
       (outcome : TransactionResult)
       → id ≢ [] → id_record c.transactions id ≡ None
       → IsTold (pos 49) c (end c form id pair outcome)
 
 -- another producer id than the id's
-pub record OtherProducer : Type 0 where
-  pub add : (c : CoordinatorValue) (id : List ℕ) (pair : ProducerIdAndEpoch) (moment : ℕ)
+pub record OtherProducer (add_partitions : AddRule) (add_group : GroupRule) (end : EndRule)
+    : Type 0 where
+  pub adds : (c : CoordinatorValue) (id : List ℕ) (pair : ProducerIdAndEpoch) (moment : ℕ)
       (p : TopicPartition) (ps : List TopicPartition) (t : Transaction)
       → id ≢ [] → id_record c.transactions id ≡ Some t → pair.producer ≢ t.pair.producer
       → IsTold (pos 49) c (add_partitions c id pair moment (p ∷ ps))
-  pub group : (c : CoordinatorValue) (id : List ℕ) (pair : ProducerIdAndEpoch) (moment : ℕ)
+  pub groups : (c : CoordinatorValue) (id : List ℕ) (pair : ProducerIdAndEpoch) (moment : ℕ)
       (g : List ℕ) (t : Transaction)
       → id ≢ [] → id_record c.transactions id ≡ Some t → pair.producer ≢ t.pair.producer
       → IsTold (pos 49) c (add_group c id pair moment g)
-  pub end : (c : CoordinatorValue) (form : EndForm) (id : List ℕ) (pair : ProducerIdAndEpoch)
+  pub ends : (c : CoordinatorValue) (form : EndForm) (id : List ℕ) (pair : ProducerIdAndEpoch)
       (outcome : TransactionResult) (t : Transaction)
       → id ≢ [] → id_record c.transactions id ≡ Some t → t.kept ≢ Some pair
       → pair.producer ≢ t.pair.producer → IsTold (pos 49) c (end c form id pair outcome)
 
 -- another epoch
-pub record OtherEpoch : Type 0 where
-  pub add : (c : CoordinatorValue) (id : List ℕ) (pair : ProducerIdAndEpoch) (moment : ℕ)
+pub record OtherEpoch (add_partitions : AddRule) (add_group : GroupRule) (end : EndRule)
+    : Type 0 where
+  pub adds : (c : CoordinatorValue) (id : List ℕ) (pair : ProducerIdAndEpoch) (moment : ℕ)
       (p : TopicPartition) (ps : List TopicPartition) (t : Transaction)
       → id ≢ [] → id_record c.transactions id ≡ Some t → IsOfOtherEpoch t pair
       → IsTold (pos 47) c (add_partitions c id pair moment (p ∷ ps))
-  pub group : (c : CoordinatorValue) (id : List ℕ) (pair : ProducerIdAndEpoch) (moment : ℕ)
+  pub groups : (c : CoordinatorValue) (id : List ℕ) (pair : ProducerIdAndEpoch) (moment : ℕ)
       (g : List ℕ) (t : Transaction)
       → id ≢ [] → id_record c.transactions id ≡ Some t → IsOfOtherEpoch t pair
       → IsTold (pos 47) c (add_group c id pair moment g)
-  pub end : (c : CoordinatorValue) (form : EndForm) (id : List ℕ) (pair : ProducerIdAndEpoch)
+  pub ends : (c : CoordinatorValue) (form : EndForm) (id : List ℕ) (pair : ProducerIdAndEpoch)
       (outcome : TransactionResult) (t : Transaction)
       → id ≢ [] → id_record c.transactions id ≡ Some t → t.kept ≢ Some pair → IsOfOtherEpoch t pair
       → IsTold (epoch_number form) c (end c form id pair outcome)
 
-pub record TurnsAwayByTable : Type 0 where
-  pub empty : EmptyId
-  pub unknown : UnknownId
-  pub producer : OtherProducer
-  pub epoch : OtherEpoch
+-- the code of each call that is turned away, which changes nothing
+pub record TurnsAwayByTable (init : InitRule) (add_partitions : AddRule) (add_group : GroupRule)
+    (end : EndRule) : Type 0 where
+  pub empty : EmptyId init add_partitions add_group end
+  pub unknown : UnknownId add_partitions add_group end
+  pub producer : OtherProducer add_partitions add_group end
+  pub epoch : OtherEpoch add_partitions add_group end
   -- a timeout that isn't from 1 to the greatest
   pub timeout : (c : CoordinatorValue) (id : List ℕ) (timeout greatest : ℤ) → id ≢ []
       → (timeout ≤ℤ pos 0) ⊎ (greatest <ℤ timeout) → IsTold (pos 50) c (init c id timeout greatest)

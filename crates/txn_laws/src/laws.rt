@@ -1,6 +1,10 @@
 //! The laws of transactions, each the contract of a function with nothing to do.
 
+ghost use Rattle.txn_coordinator.specs.Adding.{add_group, add_partitions};
+ghost use Rattle.txn_coordinator.specs.EndTxn.{end};
+ghost use Rattle.txn_coordinator.specs.InitProducerId.{init};
 ghost use Rattle.txn_laws.specs.Small.{World};
+ghost use Rattle.txn_laws.specs.Wrong.{add_beginning_again, add_by_any_producer, add_dropping_earlier, add_to_prepared, end_in_5_as_in_4, end_keeping_the_epoch, end_never_fencing, end_without_groups, group_beginning_again, group_dropping_earlier, init_beside_open, init_cutting_timeouts, init_used_up_from_100};
 ghost use Rattle.txn_laws.specs.Sound.{HaveOwnIds};
 ghost use Rattle.txn_laws.specs.Laws.{InSound, InReached, SoundLaw};
 ghost use Rattle.txn_laws.specs.Laws.{CompletionLaw, WaitingLaw, PreparingLaw, PreparedLaw, CompletedLaw};
@@ -15,16 +19,29 @@ ghost use Rattle.txn_laws.specs.TurnedAway.{TurnsAwayByTable};
 /// Such tables say it too of InitProducerId, AddPartitionsToTxn and AddOffsetsToTxn; the last two add what they name to the
 /// transaction, and nothing else.
 pub fn calls_by_table()
-    ensures ends { EndTable }
-    ensures inits { InitTable }
-    ensures adds { AddTable }
-    ensures groups { GroupTable }
+    ensures ends { EndTable end }
+    ensures ends_groups { ¬ EndTable end_without_groups }
+    ensures ends_raising { ¬ EndTable end_keeping_the_epoch }
+    ensures ends_by_version { ¬ EndTable end_in_5_as_in_4 }
+    ensures inits { InitTable init }
+    ensures inits_until_used_up { ¬ InitTable init_used_up_from_100 }
+    ensures inits_waiting { ¬ InitTable init_beside_open }
+    ensures adds { AddTable add_partitions }
+    ensures adds_to_open { ¬ AddTable add_to_prepared }
+    ensures adds_in_time { ¬ AddTable add_beginning_again }
+    ensures adds_keeping { ¬ AddTable add_dropping_earlier }
+    ensures groups { GroupTable add_group }
+    ensures groups_in_time { ¬ GroupTable group_beginning_again }
+    ensures groups_keeping { ¬ GroupTable group_dropping_earlier }
 {}
 
 /// A table of the protocol's numbers says which error a call gets that comes with an empty or unknown transactional id, another
 /// producer id or epoch, or a timeout out of range, or that is a retry; and that such a call changes nothing.
 pub fn turns_away_by_table()
-    ensures { TurnsAwayByTable }
+    ensures table { TurnsAwayByTable init add_partitions add_group end }
+    ensures timeouts { ¬ TurnsAwayByTable init_cutting_timeouts add_partitions add_group end }
+    ensures producers { ¬ TurnsAwayByTable init add_by_any_producer add_group end }
+    ensures epochs { ¬ TurnsAwayByTable init add_partitions add_group end_never_fencing }
 {}
 
 /// The invariant of the coordinator, the logs and the groups holds at the beginning, and each call, write, marker and tick keeps
