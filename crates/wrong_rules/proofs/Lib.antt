@@ -1,0 +1,9 @@
+pub mod Supers
+pub mod Permissions
+pub mod Timeouts
+pub mod Pairs
+pub mod Topics
+pub mod Filters
+pub mod Markers
+pub mod Faults
+pub mod Lines

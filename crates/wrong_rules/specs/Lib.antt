@@ -1,0 +1,14 @@
+pub mod Steps
+pub mod Supers
+pub mod Permissions
+pub mod Timeouts
+pub mod Pairs
+pub mod Retries
+pub mod Topics
+pub mod Filters
+pub mod AclEdits
+pub mod Markers
+pub mod Aborted
+pub mod Faults
+pub mod Lines
+pub mod Bounds
