@@ -1,0 +1,119 @@
+#!/usr/bin/env python3
+"""Prints the table of the laws that refute wrong rules: `tools/refutations.py`; `--write` puts it into docs/PROOFS.md.
+
+A law over a rule is a predicate. A function of laws.rt has a clause that the broker's own rule has it, and beside it clauses that
+wrong ones haven't, as `¬ Law wrong`. What the law and each wrong rule say is the comment above its definition. The status is 1 where
+a law is refuted and no clause of that function says what has it, or where a comment lacks.
+"""
+
+import argparse
+import re
+import sys
+from pathlib import Path
+
+ROOT = Path(__file__).resolve().parent.parent
+PAGE = ROOT / "docs/PROOFS.md"
+BEGIN, END = "<!-- made by tools/refutations.py -->\n", "<!-- so far -->\n"
+FUNCTION = re.compile(r"^pub fn (\w+)\(\)\n(.*?)^\{\}$", re.M | re.S)
+CLAUSE = re.compile(r"ensures (?:(\w+) )?\{(.*?)\}", re.S)
+USE = re.compile(r"^ghost use Rattle\.(\w+)\.specs\.([\w.]+)\.\{(.*?)\};$", re.M | re.S)
+DEFINITION = re.compile(r"((?:^-- .*\n)+)(?:abbrev |unfoldable )?pub (?:record |data )?([\w]+)", re.M)
+REFUTED = re.compile(r"^(?:\(.*\) → )?¬ (.*)$", re.S)
+
+
+class Law:
+    """A law of a function: its name, the rules that have it, and the wrong ones that it refutes."""
+
+    def __init__(self, crate, function, name):
+        self.crate, self.function, self.name = crate, function, name
+        self.right, self.wrong = [], []
+
+    @property
+    def is_only(self):
+        """Whether it says that no other rule has the law beside it."""
+        return self.name.startswith("OnlyRuleOf")
+
+
+def comments_of(crate, module):
+    """What stands above each definition of a file of specs/, by its name."""
+    path = ROOT / "crates" / crate / "specs" / f"{module.replace('.', '/')}.antt"
+    if not path.exists():
+        return {}
+    said = {}
+    for lines, name in DEFINITION.findall(path.read_text(encoding="utf-8")):
+        said[name] = " ".join(line[3:] for line in lines.splitlines() if not line.startswith("-- ----"))
+    return said
+
+
+def words_of(text):
+    """The law of a clause and its arguments, each a rule, which may have an argument of its own."""
+    law, *arguments = re.findall(r"\(([^()]*)\)|(\S+)", " ".join(text.split()))
+    return law[1], [bracketed.split()[0] if bracketed else word for bracketed, word in arguments]
+
+
+def laws_of(path):
+    """The laws that a file refutes of wrong rules, and what its definitions say."""
+    text, crate, said = path.read_text(encoding="utf-8"), path.parts[-3], {}
+    for owner, module, names in USE.findall(text):
+        comments = comments_of(owner, module)
+        said |= {it.strip(): comments.get(it.strip(), "") for it in names.split(",")}
+    laws = []
+    for function, clauses in FUNCTION.findall(text):
+        own = {}
+        for _, clause in CLAUSE.findall(clauses):
+            refuted = REFUTED.match(clause.strip())
+            name, rules = words_of(refuted[1] if refuted else clause)
+            law = own.setdefault(name, Law(crate, function, name))
+            (law.wrong if refuted else law.right).append(rules)
+        laws += [it for it in own.values() if it.wrong or it.is_only]
+    return laws, said
+
+
+def row_of(law, said):
+    """The row of a law, and what lacks in it."""
+    right = law.right[0] if law.right else []
+    others = [[it for it in rules if it not in right] for rules in law.wrong]
+    lacks = [] if law.right else [f"{law.crate}: {law.function}: no clause says what has {law.name}"]
+    names = [law.name, *(it for rules in others for it in rules)]
+    lacks += [f"{law.crate}: {law.function}: no comment says what {it} is" for it in names if not said.get(it)]
+    wrong = "; ".join(f"`{it}`: {said.get(it, '')}" for rules in others for it in rules) or "every other rule"
+    rule = ", ".join(f"`{it}`" for it in right)
+    return f"| `{law.crate}`, `{law.function}` | `{law.name}`: {said.get(law.name, '')} | {rule} | {wrong} |", lacks
+
+
+def table():
+    """The table, and what lacks in it."""
+    rows, lacks = ["| law of | says | of the rule | and refutes |", "|---|---|---|---|"], []
+    for path in sorted((ROOT / "crates").glob("*/src/laws.rt")):
+        laws, said = laws_of(path)
+        for row, lacking in (row_of(it, said) for it in laws):
+            rows.append(row)
+            lacks += lacking
+    return "\n".join(rows) + "\n", lacks
+
+
+def parts_of(page):
+    """What stands on the page before the table, in its place, and after it."""
+    before, begin, rest = page.partition(BEGIN)
+    held, end, after = rest.partition(END)
+    if not (begin and end):
+        sys.exit(f"kbroker: {PAGE.name} has no place for the table")
+    return before, held, after
+
+
+def main():
+    parser = argparse.ArgumentParser(description="Prints the table of the laws that refute wrong rules.")
+    parser.add_argument("--write", action="store_true", help="puts it into docs/PROOFS.md")
+    made, lacks = table()
+    if parser.parse_args().write:
+        before, _, after = parts_of(PAGE.read_text(encoding="utf-8"))
+        PAGE.write_text(f"{before}{BEGIN}\n{made}\n{END}{after}", encoding="utf-8")
+    else:
+        print(made, end="")
+    for it in lacks:
+        print(f"kbroker: {it}", file=sys.stderr)
+    return 1 if lacks else 0
+
+
+if __name__ == "__main__":
+    sys.exit(main())
