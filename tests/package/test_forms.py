@@ -1,7 +1,8 @@
-"""Holds the table of forms that differ, in docs/DECISIONS.md, against the public signatures of the crates.
+"""Holds the decisions about forms that differ, in docs/DECISIONS.md, against the public signatures of the crates; and that each
+number stands there once, in order.
 
-plain_forms.txt has the plainest form of each public call. A call or a type whose form in the sources is another one has a row in
-the table, which names it; and a row names none whose form is the plain one.
+plain_forms.txt has the plainest form of each public call. A call or a type whose form in the sources is another one has a
+decision, 'Not this, but that', which names it; and such a decision names none whose form is the plain one.
 """
 
 import re
@@ -11,7 +12,10 @@ from pathlib import Path
 from program import ROOT
 
 PLAIN = Path(__file__).with_name("plain_forms.txt")
-TABLE = re.compile(r"^### Forms that differ from the plainest one$(.*?)(?=^##|\Z)", re.M | re.S)
+PAGE = "docs/DECISIONS.md"
+OF_KAFKA = re.compile(r"^\| (\d+) \| (\d{4}-\d\d-\d\d) \|", re.M)  # a row of part A
+DECISION = re.compile(r"^(\d+)\. (\d{4}-\d\d-\d\d), (stands|replaced by \d+): (.+)$", re.M)  # a line of part B
+DIFFERS = re.compile(r"Not (.*?), but ")
 ITEM = re.compile(r"^ *(?:pub )?fn (\w+)", re.M)
 OWNER = re.compile(r"^(impl|pub trait)\b([^{]*)\{", re.M)
 STRUCT = re.compile(r"^pub struct (\w+)(?:<[^{(]*>)? \{\n(.*?)^\}", re.M | re.S), re.compile(r"^    pub (\w+): (.*),$", re.M)
@@ -135,15 +139,27 @@ def plain_forms():
     return forms
 
 
-def rows():
-    """The rows of the table: what each says of the plain form."""
-    lines = TABLE.search((ROOT / "docs/DECISIONS.md").read_text())[1].splitlines()
-    return [it.split(" | ")[2] for it in lines if re.match(r"\| \d+ \|", it)]
+def plain_parts():
+    """What the decisions about forms say of the plain form."""
+    decisions = DECISION.findall((ROOT / PAGE).read_text())
+    return [found[1] for *_, text in decisions if (found := DIFFERS.match(text))]
 
 
-def named_in_rows():
-    """The names of calls and types that rows name as plain forms."""
-    return {name_of(it) for row in rows() for it in re.findall(r"`([^`]+)`", row) if re.match(r"[\w:]+", it)}
+def named_in_decisions():
+    """The names of calls and types that decisions name as plain forms."""
+    return {name_of(it) for part in plain_parts() for it in re.findall(r"`([^`]+)`", part) if re.match(r"[\w:]+", it)}
+
+
+class Decisions(unittest.TestCase):
+    def test_numbers(self):
+        """None is missing, and none stands twice; one that is replaced names a decision that stands."""
+        page = (ROOT / PAGE).read_text()
+        decisions = DECISION.findall(page)
+        numbers = [int(it[0]) for it in (*OF_KAFKA.findall(page), *decisions)]
+        self.assertGreater(len(decisions), 200)
+        self.assertEqual(numbers, [*range(1, len(numbers) + 1)])
+        replaced = [int(status.rpartition(" ")[2]) for _, _, status, _ in decisions if status != "stands"]
+        self.assertLessEqual({*replaced}, {int(number) for number, _, status, _ in decisions if status == "stands"})
 
 
 class Forms(unittest.TestCase):
@@ -154,8 +170,8 @@ class Forms(unittest.TestCase):
                 with self.subTest(crate=crate, name=name):
                     self.assertIn(name.rpartition("::")[2] if name == "Event::Ask" else name, there)
 
-    def test_what_differs_has_a_row(self):
-        named = named_in_rows()
+    def test_what_differs_has_a_decision(self):
+        named = named_in_decisions()
         for crate, forms in plain_forms().items():
             there = forms_of(crate)
             for name, plain in forms.items():
