@@ -1,6 +1,7 @@
 """What docs/OPERATING.md says that a server tells is what the sources of the crates write: its tables have each message, and no other,
 and each has words beside it."""
 
+import re
 import unittest
 from unittest import mock
 
@@ -23,6 +24,18 @@ class Page(unittest.TestCase):
             for message in those:
                 with self.subTest(table=table, message=message):
                     self.assertTrue("".join(words[table].get(message, "")), "the page doesn't say what it means, or what to do")
+
+
+class OfTools(unittest.TestCase):
+    def test_what_the_command_of_a_checkout_says(self):
+        """What the page quotes of it stands in the tools."""
+        texts = "".join((messages.ROOT / "tools" / it).read_text() for it in ("program.py", "unproved.py", "chosen.py"))
+        paragraph = next(it for it in PAGE.split("\n\n") if "In a checkout `./kbroker` also says" in it)
+        quoted = re.findall(rf"`{messages.SAID}(.+?)`", paragraph)
+        self.assertEqual(len(quoted), 3)
+        for text in quoted:
+            with self.subTest(text=text):
+                self.assertIn(text, texts)
 
 
 class Sources(unittest.TestCase):
