@@ -21,7 +21,7 @@ except ModuleNotFoundError:  # it reads TOML
 VERSION_FILE = ROOT / "crates/arguments/src/help.rt"
 VERSION = re.compile(r'^pub const VERSION: &str = "(.+)";$', re.M)
 CHANGES = ROOT / "CHANGELOG.md"
-PAGES = "GLOSSARY.md", "OPERATING.md", "TESTING_WITH_KBROKER.md", "THEOREM.md", "USING.md", "transfer.svg"
+PAGES = "GLOSSARY.md", "OPERATING.md", "PROMISES.md", "TESTING_WITH_KBROKER.md", "THEOREM.md", "USING.md", "transfer.svg"
 UNIT_BIN = "/usr/bin"  # where the unit of packaging/ has the command
 DOCS = f"share/doc/{NAME}"
 COMMAND, PROGRAM = f"bin/{NAME}", f"libexec/{NAME}/{NAME}"
