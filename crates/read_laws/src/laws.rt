@@ -1,0 +1,27 @@
+//! The laws of reads, each the contract of a function with nothing to do: the broker's rule has the law, and each wrong rule hasn't.
+
+ghost use Rattle.data_handlers.specs.Fetch.{fetch_outcome};
+ghost use Rattle.broker_world.specs.World.{World};
+ghost use Rattle.broker_world.specs.Logs.{HoldLogs};
+ghost use Rattle.read_laws.specs.Fetches.{LogsHaveBytes, TellsNoError, ServesTheNextBatch, ServesNothingElse};
+ghost use Rattle.read_laws.specs.WrongFetches.{fetch_always_out_of_range, fetch_answering_nobody, fetch_as_committed, fetch_as_uncommitted, fetch_after_the_offset, fetch_without_a_large_batch, fetch_one_partition, fetch_without_the_last_batch};
+
+/// A Fetch from a partition that the caller may READ is told no error at any offset from 0 to the log's end. The answer begins with
+/// the first batch that ends after the offset, up to the log's end or, for read_committed, up to the last stable offset: whatever
+/// its size where no partition before was given records, and else where max_bytes leaves room for it. Where there is no such
+/// batch, the answer is empty.
+pub fn fetches_succeed()
+    ensures no_error { TellsNoError fetch_outcome }
+    ensures no_error_not_out_of_range { ¬ TellsNoError fetch_always_out_of_range }
+    ensures no_error_not_unanswered { ¬ TellsNoError fetch_answering_nobody }
+    ensures next { ServesTheNextBatch fetch_outcome }
+    ensures next_not_out_of_range { ¬ ServesTheNextBatch fetch_always_out_of_range }
+    ensures next_also_large { ¬ ServesTheNextBatch fetch_without_a_large_batch }
+    ensures next_also_last { ¬ ServesTheNextBatch fetch_without_the_last_batch }
+    ensures next_also_later { ¬ ServesTheNextBatch fetch_one_partition }
+    ensures next_not_after { ¬ ServesTheNextBatch fetch_after_the_offset }
+    ensures next_of_level { ¬ ServesTheNextBatch fetch_as_committed }
+    ensures else_nothing { ServesNothingElse fetch_outcome }
+    ensures else_nothing_of_level { ¬ ServesNothingElse fetch_as_uncommitted }
+    ensures bytes { (w : World) → HoldLogs w.topics → LogsHaveBytes w.topics }
+{}

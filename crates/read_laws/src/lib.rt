@@ -1,0 +1,7 @@
+//! The laws that reads succeed: what may be read is told, from where it is asked for on. They are of the definitions that the
+//! handlers' contracts cite.
+#![tactic(auto)]
+
+mod laws;
+
+pub use laws::fetches_succeed;
