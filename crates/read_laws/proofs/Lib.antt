@@ -1,2 +1,4 @@
 pub mod Fetches
 pub mod WrongFetches
+pub mod ListOffsets
+pub mod WrongListOffsets

@@ -1,10 +1,13 @@
 //! The laws of reads, each the contract of a function with nothing to do: the broker's rule has the law, and each wrong rule hasn't.
 
 ghost use Rattle.data_handlers.specs.Fetch.{fetch_outcome};
+ghost use Rattle.data_handlers.specs.ListOffsets.{list_offsets_outcome};
 ghost use Rattle.broker_world.specs.World.{World};
 ghost use Rattle.broker_world.specs.Logs.{HoldLogs};
 ghost use Rattle.read_laws.specs.Fetches.{LogsHaveBytes, TellsNoError, ServesTheNextBatch, ServesNothingElse};
 ghost use Rattle.read_laws.specs.WrongFetches.{fetch_always_out_of_range, fetch_answering_nobody, fetch_as_committed, fetch_as_uncommitted, fetch_after_the_offset, fetch_without_a_large_batch, fetch_one_partition, fetch_without_the_last_batch};
+ghost use Rattle.read_laws.specs.ListOffsets.{TellsTheLatest, TellsTheEarliest};
+ghost use Rattle.read_laws.specs.WrongListOffsets.{list_always_invalid, list_as_committed, list_as_uncommitted, list_other_end};
 
 /// A Fetch from a partition that the caller may READ is told no error at any offset from 0 to the log's end. The answer begins with
 /// the first batch that ends after the offset, up to the log's end or, for read_committed, up to the last stable offset: whatever
@@ -24,4 +27,17 @@ pub fn fetches_succeed()
     ensures else_nothing { ServesNothingElse fetch_outcome }
     ensures else_nothing_of_level { ¬ ServesNothingElse fetch_as_uncommitted }
     ensures bytes { (w : World) → HoldLogs w.topics → LogsHaveBytes w.topics }
+{}
+
+/// A ListOffsets of a partition that the caller may DESCRIBE is told no error. The latest offset (timestamp -1) is the log's end,
+/// or for read_committed the last stable offset; the earliest (-2) is 0.
+pub fn list_offsets_succeeds()
+    ensures latest { TellsTheLatest list_offsets_outcome }
+    ensures latest_not_invalid { ¬ TellsTheLatest list_always_invalid }
+    ensures latest_of_level { ¬ TellsTheLatest list_as_committed }
+    ensures latest_not_unstable { ¬ TellsTheLatest list_as_uncommitted }
+    ensures latest_not_earliest { ¬ TellsTheLatest list_other_end }
+    ensures earliest { TellsTheEarliest list_offsets_outcome }
+    ensures earliest_not_invalid { ¬ TellsTheEarliest list_always_invalid }
+    ensures earliest_not_latest { ¬ TellsTheEarliest list_other_end }
 {}

@@ -4,4 +4,4 @@
 
 mod laws;
 
-pub use laws::fetches_succeed;
+pub use laws::{fetches_succeed, list_offsets_succeeds};
