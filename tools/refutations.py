@@ -41,7 +41,7 @@ def comments_of(crate, module):
         return {}
     said = {}
     for lines, name in DEFINITION.findall(path.read_text(encoding="utf-8")):
-        said[name] = " ".join(line[3:] for line in lines.splitlines() if not line.startswith("-- ----"))
+        said[name] = " ".join(line[3:] for line in lines.splitlines() if not line.startswith("-- ----")).removeprefix("wrong: ")
     return said
 
 

@@ -16,7 +16,8 @@ each_listed f (replies.ListOffsets reply) =
     replies.ListOffsets
     (record reply {
       topics =
-          map (λ (t : Topic FoundOffset). record t { partitions = map f t.partitions }) reply.topics;
+          map (λ (t : Topic FoundOffset). record t { partitions = map f t.partitions })
+          reply.topics;
     })
 each_listed f reply = reply
 
@@ -31,7 +32,8 @@ list_always_invalid w caller r =
 
 -- wrong: the isolation level isn't looked at, and read_uncommitted is told what read_committed is
 abbrev pub list_as_committed : ListRule
-list_as_committed w caller r = list_offsets_outcome w caller (record r { isolation = ReadCommitted })
+list_as_committed w caller r =
+    list_offsets_outcome w caller (record r { isolation = ReadCommitted })
 
 -- wrong: the isolation level isn't looked at, and read_committed is told what read_uncommitted is
 abbrev pub list_as_uncommitted : ListRule
