@@ -1,5 +1,5 @@
 -- How much one answer of a Fetch holds.
-use Rattle.std.proofs.Common.{◌≡◌, ◌⊎◌, inl, inr, ℕ, ℤ, ◌+◌, ◌-◌, ◌≤◌, min, Bool, true, false, ◌||◌, List, [], ◌∷◌, ◌++◌, length, length-append, append-nil, append_assoc, Option, Some, None, refl, sym, ap, subst, ◌∙◌, arith}
+use Rattle.std.proofs.Common.{◌≡◌, ◌⊎◌, inl, inr, ℕ, ℤ, ◌+◌, ◌-◌, ◌≤◌, min, Bool, true, false, ◌||◌, List, [], ◌∷◌, ◌++◌, length, length-append, append-nil, Option, Some, None, refl, sym, ap, subst, ◌∙◌, arith}
 use Rattle.std.specs.Prelude.{nat_le}
 use Rattle.std.specs.List.{flat_map}
 use Rattle.std.proofs.Math.Nat.{min-le_left, min-le_right}
@@ -28,7 +28,7 @@ use Rattle.broker_world.specs.First.{non_negative}
 use Rattle.broker_world.specs.Logs.{log_at}
 use Rattle.data_handlers.specs.Fetch.{budget_for, budget_after_batches, is_outside, served_at, fetched_partition, budget_after, batch_bytes, fetch_rule, whole_budget, fetch_outcome}
 use Rattle.api_laws.specs.DataLaws.{IsFetched}
-use Rattle.api_laws.specs.FetchSizes.{bytes_of_topic, bytes_of, IsOneBatch, IsWithin, FetchIsWithin}
+use Rattle.api_laws.specs.FetchSizes.{bytes_of, IsOneBatch, IsWithin, FetchIsWithin}
 use Rattle.api_laws.proofs.DataFetches.{fetches_runs}
 
 -- ---- what a part of an answer does with the budget
@@ -206,5 +206,5 @@ each w caller r reply is i j t a p answer asks names tells answers_it =
     let same_answer = same_element answer _ (sym answers_it ∙ ap (λ (x : Topic FetchedRecords). element_at x.partitions j) same_topic ∙ there) in
     subst (λ (x : FetchedRecords). IsWithin w p.max_bytes x.records) (sym same_answer) (part w caller r.isolation _ t.name p (refusal_of api (rules_of w) t.name p)).within
 
-pub fetch_is_within : FetchIsWithin
+pub fetch_is_within : FetchIsWithin fetch_outcome
 fetch_is_within = record { whole = whole; each = each }

@@ -1,5 +1,5 @@
 -- A response is the size of what comes, the correlation id, and the body.
-use Rattle.std.proofs.Common.{◌≡◌, ℕ, ℤ, pos, negsuc, ◌<◌, ◌-◌, Bool, true, false, List, [], ◌∷◌, ◌++◌, length, Option, refl, sym, ap, ◌∙◌, append_assoc, arith, w32}
+use Rattle.std.proofs.Common.{◌≡◌, ℕ, ℤ, pos, negsuc, ◌<◌, Bool, true, false, List, [], ◌∷◌, ◌++◌, length, Option, refl, sym, ap, ◌∙◌, append_assoc, arith, w32}
 use Rattle.std.specs.Prelude.{◌≤ℤ◌, ◌<ℤ◌}
 use Rattle.std.specs.Int.{to_be_bytes, cast_unsigned}
 use Rattle.std.proofs.lemmas.Int.{ints}
@@ -10,7 +10,7 @@ use Rattle.msg_admin.specs.Api.{is_flexible}
 use Rattle.msg_admin.specs.Header.{with_header_tags}
 use Rattle.msg_admin.specs.Bodies.{reply_body}
 use Rattle.msg_admin.specs.Frame.{frame_bytes}
-use Rattle.msg_admin.specs.Response.{response, response_as, response_text}
+use Rattle.msg_admin.specs.Response.{response_as, response_text}
 use Rattle.wire_types.specs.Schema.{int32}
 use Rattle.api_laws.specs.Framing.{four_bytes, word_of, tags, after_size, ResponsesAreFramed}
 

@@ -93,5 +93,5 @@ described w caller (name ∷ names) = by_verdict (verdict w.book w.supers q) (de
   by_verdict (Denied n) rest = rest
   by_verdict Nothing rest = rest
 
-pub null_tells_describable : NullTellsDescribable
+pub null_tells_describable : NullTellsDescribable metadata_topics
 null_tells_describable w caller = described w caller (topic_names w.topics)

@@ -10,7 +10,7 @@ use Rattle.record_batch.specs.Batch.{BatchData, IsBatch, IsMarked, next_offset}
 use Rattle.producer_state.specs.Sequences.{has_producer_id}
 use Rattle.partition_log.specs.Log.{IsGapless, end_of, is_transactional_data, first_marker, transaction_outcome, is_open, open_bases, lesser_of, least_of, or_else}
 use Rattle.partition_log.proofs.Numbers.{IsLowest, lowest_here, lowest_there}
-use Rattle.api_laws.specs.LastStable.{IsUnended, HasUnendedAt, IsLastStable, LastStableIsExact}
+use Rattle.api_laws.specs.LastStable.{IsUnended, HasUnendedAt, LastStableIsExact}
 
 -- ---- the batches of a log
 

@@ -39,3 +39,4 @@ pub mod KeptOut
 pub mod Unchanged
 pub mod BareAnswers
 pub mod ErrorCases
+pub mod Wrong

@@ -4,7 +4,7 @@ use Rattle.std.specs.Prelude.{nat_le}
 use Rattle.std.proofs.lemmas.Bool.{leb-false}
 use Rattle.record_batch.specs.Batch.{BatchData}
 use Rattle.partition_log.specs.Log.{end_of, last_stable_offset}
-use Rattle.partition_log.specs.Fetch.{batches_below, batches_from, fitting_batches, at_least_one, served_batches}
+use Rattle.partition_log.specs.Fetch.{batches_below, batches_from, fitting_batches, at_least_one, served_batches, served_of}
 use Rattle.partition_log.proofs.Longest.{fitting_longest}
 use Rattle.api_laws.specs.Longest.{IsLongest, ServesWhatFits}
 use Rattle.api_laws.proofs.DataFetches.{fitting_first, fitting_small, least_first, least_small}
@@ -37,7 +37,7 @@ longest log offset limit budget forced =
       none = λ empty b rest are. nothing forced budget b rest (ap (λ (l : List BatchData). at_least_one forced l (fitting_batches budget l)) (sym are) ∙ empty);
     }
 
-pub serves : ServesWhatFits
+pub serves : ServesWhatFits served_of
 serves log offset budget forced = record {
   uncommitted = longest log offset (end_of log) budget forced;
   committed = longest log offset (last_stable_offset log) budget forced;

@@ -1,5 +1,5 @@
 -- One node is the whole cluster.
-use Rattle.std.proofs.Common.{◌≡◌, ◌⊎◌, inl, inr, ℕ, zero, suc, ◌+◌, ℤ, pos, negsuc, List, [], ◌∷◌, map, Option, Some, None, Bool, true, false, cond, refl, sym, ap, subst, ◌∙◌, arith}
+use Rattle.std.proofs.Common.{◌≡◌, ◌⊎◌, inl, inr, ℕ, zero, suc, ◌+◌, ℤ, pos, List, [], ◌∷◌, Option, Some, None, Bool, true, false, cond, refl, sym, ap, subst, ◌∙◌, arith}
 use Rattle.std.specs.Prelude.{slice_get}
 use Rattle.std.specs.List.{AllByRecursion}
 use Rattle.std.specs.Option.{option_map}
@@ -26,9 +26,9 @@ use Rattle.broker_world.specs.World.{World, TopicValue, rules_of, find_topic}
 use Rattle.broker_world.specs.Whole.{whole_outcome_by}
 use Rattle.broker_world.specs.Questions.{topic_refusal}
 use Rattle.broker_world.specs.Partitions.{partitions_from}
-use Rattle.data_handlers.specs.Metadata.{topic_error, topic_found, plain_topic, plain_topics, allowed_topics, refused_topic, refused_topics, metadata_topics, metadata_answer}
+use Rattle.data_handlers.specs.Metadata.{topic_error, topic_found, plain_topics, allowed_topics, refused_topics, metadata_topics, metadata_answer}
 use Rattle.group_handlers.specs.FindCoordinator.{kind_of, find_questions, find_error, find_reply}
-use Rattle.api_laws.specs.OneNode.{IsLed, ListsTheNode, IsTheNode, IsNoNode, FindsTheNode, OneNodeIsAll}
+use Rattle.api_laws.specs.OneNode.{IsLed, ListsTheNode, FindsTheNode, OneNodeIsAll}
 
 -- ---- Metadata
 

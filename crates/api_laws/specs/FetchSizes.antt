@@ -1,6 +1,6 @@
 -- How much one answer of a Fetch holds (Kafka protocol guide, "Fetch API (Key: 1)": max_bytes of
 -- the request, and of a partition).
-use Rattle.std.specs.Prelude.{◌≡◌, ◌≤◌, ◌⊎◌, ℕ, ℤ, List, [], ◌∷◌, ◌++◌, length, Some}
+use Rattle.std.specs.Prelude.{◌≡◌, ◌≤◌, ◌⊎◌, ℕ, ℤ, List, ◌∷◌, ◌++◌, length, Some}
 use Rattle.std.specs.List.{flat_map}
 use Rattle.acl_binding.specs.declared.question.Caller.{Caller}
 use Rattle.wire_types.specs.declared.topic.Topic.{Topic}
@@ -14,7 +14,11 @@ use Rattle.walk.specs.Headline.{element_at}
 use Rattle.broker_world.specs.World.{World, LogValue}
 use Rattle.broker_world.specs.First.{non_negative}
 use Rattle.broker_world.specs.Logs.{log_at}
-use Rattle.data_handlers.specs.Fetch.{fetch_outcome}
+use Rattle.broker_world.specs.HandlerResult.{HandlerResult}
+
+-- what a Fetch comes to
+abbrev pub FetchRule : Type 0
+FetchRule = World → Caller → FetchRequest → HandlerResult
 
 -- all batches of an answer, one after the other
 abbrev pub bytes_of_topic : Topic FetchedRecords → List ℕ
@@ -42,7 +46,7 @@ IsWithin w most bytes = (length bytes ≤ non_negative most) ⊎ IsOneBatch w by
 -- Whatever is asked, and whatever of it is allowed: the batches of the whole answer have together
 -- at most the request's bytes, or are one batch; and those of each partition have at most its own,
 -- or are one batch.
-pub record FetchIsWithin : Type 0 where
+pub record FetchIsWithin (fetch_outcome : FetchRule) : Type 0 where
   pub whole : (w : World) (caller : Caller) (r : FetchRequest) (reply : FetchReply)
       → (fetch_outcome w caller r).reply ≡ replies.Fetch reply
       → IsWithin w r.max_bytes (bytes_of reply.topics)

@@ -1,5 +1,9 @@
 //! The laws of each api, each the contract of a function with nothing to do.
 
+ghost use Rattle.data_handlers.specs.Fetch.{fetch_outcome};
+ghost use Rattle.data_handlers.specs.Metadata.{metadata_topics};
+ghost use Rattle.partition_log.specs.Fetch.{served_of};
+ghost use Rattle.walk.specs.Codes.{refusal_code};
 ghost use Rattle.api_laws.specs.Runs.{WholeRuns};
 ghost use Rattle.api_laws.specs.Headline.{AnswersEachTopic, RefusesEachTopic, NullTellsDescribable};
 ghost use Rattle.api_laws.specs.Framing.{ResponsesAreFramed};
@@ -27,6 +31,7 @@ ghost use Rattle.api_laws.specs.KeptOut.{RefusedKeepsOut};
 ghost use Rattle.api_laws.specs.Unchanged.{ErrorsChangeNothing};
 ghost use Rattle.api_laws.specs.BareAnswers.{RefusalsTellNothing};
 ghost use Rattle.api_laws.specs.ErrorCases.{ErrorsAreAnswered};
+ghost use Rattle.api_laws.specs.Wrong.{code_of_ids_as_groups, code_of_topics, fetch_keeping_the_budget, fetch_without_max_bytes, serving_one_less, serving_to_the_end, serving_too_much, topics_for_everybody, topics_for_nobody};
 
 /// A list of events that a core takes without a stop gives a receipt for each event, in order, and leaves the core in the state
 /// to which these events lead.
@@ -49,13 +54,18 @@ pub fn metadata_refuses_each_topic()
 /// A Metadata request with a null list, which asks for all topics, is told exactly those that the caller may describe, each as
 /// where it is asked for alone.
 pub fn null_metadata_tells_describable()
-    ensures { NullTellsDescribable }
+    ensures told { NullTellsDescribable metadata_topics }
+    ensures not_to_everybody { ¬ NullTellsDescribable topics_for_everybody }
+    ensures to_somebody { ¬ NullTellsDescribable topics_for_nobody }
 {}
 
 /// At either isolation level a fetch is served the longest run of whole batches that its size limit has bytes for, up to the
 /// log's end or the last stable offset; or the first batch alone, if not even that fits and one is forced.
 pub fn serves_what_fits()
-    ensures { ServesWhatFits }
+    ensures served { ServesWhatFits served_of }
+    ensures until_stable { ¬ ServesWhatFits serving_to_the_end }
+    ensures as_much { ¬ ServesWhatFits serving_one_less }
+    ensures no_more { ¬ ServesWhatFits serving_too_much }
 {}
 
 /// A log's last stable offset is the base offset of the first batch whose transaction no control batch has ended; or the log's
@@ -73,7 +83,9 @@ pub fn responses_are_framed()
 /// A part of a request that is refused is told TOPIC_, GROUP_, CLUSTER_ or TRANSACTIONAL_ID_AUTHORIZATION_FAILED (29, 30, 31,
 /// 53), by the kind of resource that it asks about.
 pub fn refusals_by_number()
-    ensures { RefusalsByNumber }
+    ensures told { RefusalsByNumber refusal_code }
+    ensures by_kind { ¬ RefusalsByNumber code_of_topics }
+    ensures ids_apart { ¬ RefusalsByNumber code_of_ids_as_groups }
 {}
 
 /// The node of the settings is the only broker, the controller, the leader and the only replica of each partition, and the
@@ -102,7 +114,9 @@ pub fn fetches_runs()
 /// The batches of a Fetch response have together at most the request's max_bytes, and those of a partition at most the
 /// partition's own; or they are one batch alone.
 pub fn fetch_is_within()
-    ensures { FetchIsWithin }
+    ensures within { FetchIsWithin fetch_outcome }
+    ensures taking_off { ¬ FetchIsWithin fetch_keeping_the_budget }
+    ensures looking_at_it { ¬ FetchIsWithin fetch_without_max_bytes }
 {}
 
 /// An allowed partition of a ListOffsets is told, for the timestamp -1, the end of its log, or for read_committed the last stable
