@@ -20,8 +20,8 @@ use Rattle.authorizer.specs.Asking.{Rules, part_refusal}
 use Rattle.broker_world.specs.World.{World, rules_of}
 use Rattle.broker_world.specs.Whole.{Served, whole_outcome_by, whole_outcome}
 use Rattle.acl_handlers.specs.DescribeAcls.{describe_acls_questions, describe_acls_reply}
-use Rattle.acl_handlers.specs.CreateAcls.{alter_questions, book_with, book_created}
-use Rattle.acl_handlers.specs.DeleteAcls.{book_without, book_deleted, deletion_results, delete_acls_reply}
+use Rattle.acl_handlers.specs.CreateAcls.{alter_questions, book_with, book_created, create_acls_outcome}
+use Rattle.acl_handlers.specs.DeleteAcls.{book_without, book_deleted, deletion_results, delete_acls_reply, delete_acls_outcome}
 use Rattle.api_laws.specs.AclLaws.{IsOfEntry, AreCreated, CreatesEach, StandsIn, AreDeleted, DeletesEach, IsRefusedWhole, RefusedEditNothing, SameEdit, AclsDependOnTheBook, AclsKeepTopics}
 use Rattle.acl_handlers.proofs.BookBounds.{whole_topics}
 
@@ -108,7 +108,7 @@ created book es =
     let after = created_more book es in
     record { each = created_stand book es; more = after.more; kept = after.kept; sent = after.sent }
 
-pub creates_each : CreatesEach
+pub creates_each : CreatesEach create_acls_outcome
 creates_each w caller r granted =
     subst (λ (book : BookValue). AreCreated r.creations w.book.entries book.entries) (book_granted (part_refusal (rules_of w) (alter_questions caller)) w _ _ granted) (created w.book r.creations)
 
@@ -188,7 +188,7 @@ deleted_alone book (e ∷ es) n there = by_filter (filter_of e) (deleted_alone (
 deleted : (book : BookValue) (es : List FilterEntry) → AreDeleted es book.entries (book_deleted book es).entries
 deleted book es = record { each = deleted_picked book es; kept = λ n there none. deleted_kept book es n there none; alone = λ n there. deleted_alone book es n there }
 
-pub deletes_each : DeletesEach
+pub deletes_each : DeletesEach delete_acls_outcome
 deletes_each w caller r granted =
     subst (λ (book : BookValue). AreDeleted r.filters w.book.entries book.entries) (book_granted (part_refusal (rules_of w) (alter_questions caller)) w _ _ granted) (deleted w.book r.filters)
 

@@ -110,7 +110,7 @@ use Rattle.acl_handlers.specs.DescribeAcls.{describe_acls_questions, describe_ac
 use Rattle.acl_handlers.specs.CreateAcls.{alter_questions, book_created, creation_result_with, creation_result_by, creation_result, create_acls_reply}
 use Rattle.acl_handlers.specs.DeleteAcls.{book_without, book_deleted, deletion_error, deletion_result, deletion_results, delete_acls_reply}
 use Rattle.api_dispatch.specs.Questions.{asks_itself, asks_at}
-use Rattle.api_dispatch.specs.Step.{request_outcome}
+use Rattle.api_dispatch.specs.Step.{request_outcome, reply_to}
 use Rattle.api_laws.specs.Headline.{is_yes}
 use Rattle.api_laws.specs.ToldErrors.{errors_itself, Place, TopicAt, PartitionAt, error_number, error_number_in, partition_error_at, topic_error_at, error_at}
 use Rattle.api_laws.specs.AskedTable.{Row, row, row_question, coordinator_rows, producer_rows, request_rows, id_row, topic_rows, rows_for, rows_in, partition_rows, rows_of, name_rows, offset_rows, rows_at, first_refused, refusal_number, IsNoRefusal, TellsItself, TellsAt, result_count, AsksByTable}
@@ -680,7 +680,7 @@ module _ (w : World) (caller : Caller) where
   parts_are_told (requests.DeleteAcls r) place h some = no_row some
   parts_are_told (requests.SaslAuthenticate r) place h some = no_row some
 
-pub asks_by_table : AsksByTable
+pub asks_by_table : AsksByTable reply_to
 asks_by_table = record {
   itself = λ w caller client request. tells_itself w caller request;
   parts = λ w caller client request place h. tells_parts w caller request place h;

@@ -10,7 +10,7 @@ use Rattle.msg_admin.specs.Api.{is_flexible}
 use Rattle.msg_admin.specs.Header.{with_header_tags}
 use Rattle.msg_admin.specs.Bodies.{reply_body}
 use Rattle.msg_admin.specs.Frame.{frame_bytes}
-use Rattle.msg_admin.specs.Response.{response_as, response_text}
+use Rattle.msg_admin.specs.Response.{response_as, response_text, response}
 use Rattle.wire_types.specs.Schema.{int32}
 use Rattle.api_laws.specs.Framing.{four_bytes, word_of, tags, after_size, ResponsesAreFramed}
 
@@ -45,7 +45,7 @@ text_is z api r low high =
 size_is : (n : ℕ) → n < 2147483648 → int_written w32 (pos n) ≡ four_bytes n
 size_is n small = written_is (pos n) (omega (arith, ints)) (omega (arith, ints, small))
 
-pub framed_are : ResponsesAreFramed
+pub framed_are : ResponsesAreFramed response
 framed_are z r api sent low high small =
     ap (λ (o : Option Api). response_as o z r) sent
     ∙ ap frame_bytes (text_is z api r low high)

@@ -1,4 +1,5 @@
 -- One node is the whole cluster.
+use Rattle.api_dispatch.specs.Step.{reply_to}
 use Rattle.std.proofs.Common.{◌≡◌, ◌⊎◌, inl, inr, ℕ, zero, suc, ◌+◌, ℤ, pos, List, [], ◌∷◌, Option, Some, None, Bool, true, false, cond, refl, sym, ap, subst, ◌∙◌, arith}
 use Rattle.std.specs.Prelude.{slice_get}
 use Rattle.std.specs.List.{AllByRecursion}
@@ -160,7 +161,7 @@ same_found a b h = cc
 same_listed : (a b : MetadataReply) → replies.Metadata a ≡ replies.Metadata b → a ≡ b
 same_listed a b h = cc
 
-pub one_node : OneNodeIsAll
+pub one_node : OneNodeIsAll reply_to
 one_node = record {
   first = λ s. record { id = refl; host = refl; port = refl };
   listed = λ w caller client m reply h. subst (ListsTheNode w) (same_listed (metadata_answer w caller m) reply h) (lists w caller m);

@@ -1,5 +1,6 @@
 -- The wrong rules are refuted, each in a worked case.
-use Rattle.std.proofs.Common.{◌≡◌, ◌⊎◌, inl, inr, ℕ, zero, suc, ◌≤◌, ℤ, pos, negsuc, Bool, true, false, cond, List, [], ◌∷◌, ◌++◌, length, Option, Some, None, refl, codes as bytes, sym, ap, subst, ◌∙◌, arith}
+use Rattle.std.proofs.lemmas.Int.{ints}
+use Rattle.std.proofs.Common.{◌≡◌, ◌⊎◌, inl, inr, ℕ, zero, suc, ◌≤◌, ℤ, pos, negsuc, Bool, true, false, cond, List, [], ◌∷◌, ◌++◌, length, Option, Some, None, refl, codes as bytes, sym, ap, subst, ◌∙◌, arith, get_or, ◌<◌}
 use Rattle.std.specs.Option.{option_and_then}
 use Rattle.std.specs.List.{AllByRecursion}
 use Rattle.std.specs.Str.{bytes_eq}
@@ -7,7 +8,24 @@ use Rattle.acl_binding.specs.declared.question.Caller.{Caller}
 use Rattle.acl_binding.specs.declared.words.Kind.{Kind}
 use Rattle.acl_binding.specs.declared.words.Kind.TheVariants as kinds
 use Rattle.acl_binding.specs.declared.words.Operation.TheVariants as operations
+use Rattle.acl_binding.specs.declared.words.Pattern.TheVariants as patterns
+use Rattle.acl_binding.specs.declared.words.Permission.TheVariants as permissions
+use Rattle.acl_binding.specs.declared.binding.Binding.{Binding}
+use Rattle.acl_binding.specs.declared.binding.Numbered.{Numbered}
 use Rattle.acl_binding.specs.Book.{empty_book}
+use Rattle.acl_binding.specs.WireNumbers.{kind_at, pattern_at, operation_at, permission_at, filter_pattern_at, kind_code, pattern_code, operation_code, permission_code, filter_pattern_code}
+use Rattle.msg_acl.specs.declared.entries.BindingEntry.{BindingEntry}
+use Rattle.msg_acl.specs.declared.entries.FilterEntry.{FilterEntry}
+use Rattle.wire_types.specs.declared.error_code.ErrorCode.TheVariants as codes
+use Rattle.msg_data.specs.declared.metadata.BrokerInfo.{BrokerInfo}
+use Rattle.msg_data.specs.declared.metadata.MetadataReply.{MetadataReply}
+use Rattle.msg_admin.specs.declared.api.Api.{Api}
+use Rattle.msg_admin.specs.declared.api_key.ApiKey.TheVariants as keys
+use Rattle.msg_admin.specs.declared.request.Request.{Request}
+use Rattle.msg_admin.specs.declared.request.Request.TheVariants as requests
+use Rattle.msg_admin.specs.declared.reply.Reply.{Reply}
+use Rattle.msg_admin.specs.declared.reply.Reply.TheVariants as replies
+use Rattle.audit_trail.specs.declared.event.Event.TheVariants.{Ask}
 use Rattle.authorizer.specs.declared.answer.DenyReason.TheVariants as why
 use Rattle.authorizer.specs.declared.answer.Refusal.{Refusal}
 use Rattle.wire_types.specs.ErrorCode.{number_of}
@@ -24,7 +42,15 @@ use Rattle.api_laws.specs.Numbers.{RefusalsByNumber}
 use Rattle.api_laws.specs.Headline.{NullTellsDescribable}
 use Rattle.api_laws.specs.Longest.{ServesWhatFits}
 use Rattle.api_laws.specs.FetchSizes.{IsOneBatch, IsWithin, FetchIsWithin}
-use Rattle.api_laws.specs.Wrong.{code_of_topics, code_of_ids_as_groups, topics_for_everybody, topics_for_nobody, serving_to_the_end, serving_one_less, serving_too_much, fetch_keeping_the_budget, fetch_without_max_bytes}
+use Rattle.api_laws.specs.AskedTable.{AsksByTable}
+use Rattle.api_laws.specs.ToldErrors.{TopicAt}
+use Rattle.api_laws.specs.OneNode.{OneNodeIsAll}
+use Rattle.api_laws.specs.AclLaws.{CreatesEach, DeletesEach}
+use Rattle.api_laws.specs.Framing.{after_size, ResponsesAreFramed}
+use Rattle.msg_admin.specs.Api.{is_flexible}
+use Rattle.msg_admin.specs.Bodies.{reply_body}
+use Rattle.wire_types.specs.Spelling.{int_written}
+use Rattle.api_laws.specs.Wrong.{code_of_topics, code_of_ids_as_groups, topics_for_everybody, topics_for_nobody, serving_to_the_end, serving_one_less, serving_too_much, fetch_keeping_the_budget, fetch_without_max_bytes, reply_to_anybody, reply_to_alterers, reply_without_leaders, reply_without_brokers, creating_nothing, creating_alone, deleting_nothing, deleting_everything, response_under_another_id, response_without_size}
 
 -- ---- codes of refused parts
 
@@ -140,3 +166,91 @@ not_keeping law = six_bytes (law.whole w root request reply refl)
 
 pub not_without_max : ¬ FetchIsWithin fetch_without_max_bytes
 not_without_max law = six_bytes (law.whole w root request reply refl)
+
+-- ---- what is asked
+
+abbrev asks_metadata : Request
+asks_metadata = requests.Metadata (record { topics = Some (bytes "a" ∷ []) })
+
+pub not_anybody : ¬ AsksByTable reply_to_anybody
+unfolding number_of
+not_anybody law = let clash : Some (pos 0) ≡ Some (pos 29) = law.parts w ann None asks_metadata (TopicAt 0) refl in cc
+
+-- ann may describe the cluster, and not alter it
+abbrev describes_cluster : Binding
+describes_cluster = record { kind = kinds.Cluster; name = bytes "kafka-cluster"; pattern = patterns.Literal; principal = bytes "User:ann"; host = bytes "*"; operation = operations.Describe; permission = permissions.Allow }
+
+abbrev with_describer : World
+with_describer = record w { book = record { entries = record { number = 1; binding = describes_cluster } ∷ []; next = 2 } }
+
+abbrev any_entry : FilterEntry
+any_entry = record { kind = pos 1; name = None; pattern = pos 1; principal = None; host = None; operation = pos 1; permission = pos 1 }
+
+pub not_alterers : ¬ AsksByTable reply_to_alterers
+unfolding number_of
+not_alterers law = let clash : true ≡ false = (law.itself with_describer ann None (requests.DescribeAcls (record { filter = any_entry }))).0 in cc
+
+-- ---- the one node
+
+abbrev metadata_in : Reply → MetadataReply
+metadata_in (replies.Metadata told) = told
+metadata_in _ = record { brokers = []; controller = negsuc 0; topics = [] }
+
+pub not_leaderless : ¬ OneNodeIsAll reply_without_leaders
+not_leaderless law =
+    let listed = law.listed w root None (record { topics = Some (bytes "a" ∷ []) }) (metadata_in (reply_without_leaders w (Ask root None asks_metadata))) refl in
+    let clash : negsuc 0 ≡ pos 0 = (listed.partitions 0 0 _ _ refl refl).leader in cc
+
+pub not_brokerless : ¬ OneNodeIsAll reply_without_brokers
+not_brokerless law =
+    let listed = law.listed w root None (record { topics = Some (bytes "a" ∷ []) }) (metadata_in (reply_without_brokers w (Ask root None asks_metadata))) refl in
+    let clash : ◌≡◌ {A = ℕ} 0 1 = ap (λ (bs : List BrokerInfo). length bs) listed.brokers in cc
+
+-- ---- edits of the book
+
+abbrev entry : BindingEntry
+entry = record { kind = pos 4; name = bytes "kafka-cluster"; pattern = pos 3; principal = bytes "User:ann"; host = bytes "*"; operation = pos 8; permission = pos 3 }
+
+pub not_creating_nothing : ¬ CreatesEach creating_nothing
+unfolding kind_at pattern_at operation_at permission_at kind_code pattern_code operation_code permission_code
+not_creating_nothing law = let clash : false ≡ true = (law w root (record { creations = entry ∷ [] }) refl).each.0 in cc
+
+pub not_creating_alone : ¬ CreatesEach creating_alone
+not_creating_alone law =
+    let clash : ◌≡◌ {A = List Numbered} [] (record { number = 1; binding = describes_cluster } ∷ (law with_describer root (record { creations = [] }) refl).more) = (law with_describer root (record { creations = [] }) refl).kept in cc
+
+pub not_deleting_nothing : ¬ DeletesEach deleting_nothing
+unfolding kind_at operation_at permission_at filter_pattern_at filter_pattern_code kind_code operation_code permission_code
+not_deleting_nothing law =
+    let clash : describes_cluster ∷ [] ≡ [] = (law with_describer root (record { filters = any_entry ∷ [] }) refl).each.0 in cc
+
+pub not_deleting_everything : ¬ DeletesEach deleting_everything
+not_deleting_everything law = (law with_describer root (record { filters = [] }) refl).kept (record { number = 1; binding = describes_cluster }) (inl refl) tt
+
+-- ---- responses: to a Heartbeat, which is answered no error
+
+abbrev beat : Reply
+beat = replies.Heartbeat (record { throttle = pos 0; error = codes.None })
+
+abbrev heartbeat : Api
+heartbeat = record { key = keys.Heartbeat; version = pos 1 }
+
+ten : length (after_size (pos 5) heartbeat beat) ≡ 10
+unfolding number_of is_flexible reply_body int_written
+ten = refl
+
+small : length (after_size (pos 5) heartbeat beat) < 2147483648
+small = subst (λ (n : ℕ). n < 2147483648) (sym ten) (omega arith)
+
+sixth : List ℕ → ℕ
+sixth l = get_or l 7 0
+
+pub not_another_id : ¬ ResponsesAreFramed response_under_another_id
+unfolding sixth number_of is_flexible reply_body int_written
+not_another_id law =
+    let clash : ◌≡◌ {A = ℕ} 6 5 = ap sixth (law (pos 5) beat heartbeat refl (omega (arith, ints)) (omega (arith, ints)) small) in cc
+
+pub not_without_size : ¬ ResponsesAreFramed response_without_size
+unfolding number_of is_flexible reply_body int_written
+not_without_size law =
+    let clash : ◌≡◌ {A = ℕ} 10 14 = ap (λ (l : List ℕ). length l) (law (pos 5) beat heartbeat refl (omega (arith, ints)) (omega (arith, ints)) small) in cc

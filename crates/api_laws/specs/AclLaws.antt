@@ -36,9 +36,16 @@ pub record AreCreated (entries : List BindingEntry) (old new : List Numbered) : 
   pub kept : new ≡ old ++ more
   pub sent : AllByRecursion (λ (n : Numbered). IsOfEntry entries n.binding) more
 
--- after a CreateAcls that is granted
-abbrev pub CreatesEach : Type 0
-CreatesEach =
+-- what CreateAcls and DeleteAcls come to
+abbrev pub CreateRule : Type 0
+CreateRule = World → Caller → CreateAclsRequest → HandlerResult
+
+abbrev pub DeleteRule : Type 0
+DeleteRule = World → Caller → DeleteAclsRequest → HandlerResult
+
+-- after a CreateAcls that is granted each of its bindings stands in the book
+abbrev pub CreatesEach : CreateRule → Type 0
+CreatesEach create_acls_outcome =
     (w : World) (caller : Caller) (r : CreateAclsRequest)
     → part_refusal (rules_of w) (alter_questions caller) ≡ None
     → AreCreated r.creations w.book.entries (create_acls_outcome w caller r).world.book.entries
@@ -57,9 +64,9 @@ pub record AreDeleted (filters : List FilterEntry) (old new : List Numbered) : T
       → StandsIn new n
   pub alone : (n : Numbered) → StandsIn new n → StandsIn old n
 
--- after a DeleteAcls that is granted
-abbrev pub DeletesEach : Type 0
-DeletesEach =
+-- after a DeleteAcls that is granted no filter takes anything, and all others stand as before
+abbrev pub DeletesEach : DeleteRule → Type 0
+DeletesEach delete_acls_outcome =
     (w : World) (caller : Caller) (r : DeleteAclsRequest)
     → part_refusal (rules_of w) (alter_questions caller) ≡ None
     → AreDeleted r.filters w.book.entries (delete_acls_outcome w caller r).world.book.entries

@@ -24,7 +24,8 @@ use Rattle.walk.specs.Headline.{element_at}
 use Rattle.walk.specs.Woven.{has_any}
 use Rattle.broker_world.specs.World.{World, rules_of}
 use Rattle.api_dispatch.specs.Questions.{asks_itself, asks_at}
-use Rattle.api_dispatch.specs.Step.{reply_to}
+use Rattle.audit_trail.specs.declared.event.Event.{Event}
+use Rattle.msg_admin.specs.declared.reply.Reply.{Reply}
 use Rattle.api_laws.specs.Headline.{is_yes}
 use Rattle.api_laws.specs.ToldErrors.{Place, TopicAt, PartitionAt, errors_itself, error_at}
 
@@ -186,11 +187,15 @@ result_count request = 1
 
 -- ---- the law
 
+-- what an event is answered in a world
+abbrev pub AnswerRule : Type 0
+AnswerRule = World → Event → Reply
+
 -- Whatever the world is: a request is told the number of the first of its own rows that isn't
 -- granted; and where each of them is, each of its parts the number of the first of its rows that
 -- isn't. Nobody else is told an error of authorization. (Of an OffsetFetch alone both the request
 -- and its parts ask.)
-pub record AsksByTable : Type 0 where
+pub record AsksByTable (reply_to : AnswerRule) : Type 0 where
   pub itself : (w : World) (caller : Caller) (client : Option (List ℕ)) (request : Request)
       → TellsItself (first_refused w caller (request_rows w caller request)) (result_count request)
       (errors_itself (reply_to w (Ask caller client request)))

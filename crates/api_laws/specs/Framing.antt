@@ -5,7 +5,6 @@ use Rattle.msg_admin.specs.declared.api.Api.{Api}
 use Rattle.msg_admin.specs.declared.reply.Reply.{Reply}
 use Rattle.msg_admin.specs.Api.{is_flexible}
 use Rattle.msg_admin.specs.Bodies.{sent_as, reply_body}
-use Rattle.msg_admin.specs.Response.{response}
 
 -- a number in four bytes, the highest first
 abbrev pub four_bytes : ℕ → List ℕ
@@ -27,9 +26,13 @@ abbrev pub after_size : ℤ → Api → Reply → List ℕ
 after_size correlation api r =
     four_bytes (word_of correlation) ++ (tags (is_flexible api) ++ (reply_body api).written r)
 
+-- the bytes of a response, by the correlation id of its request
+abbrev pub ResponseRule : Type 0
+ResponseRule = ℤ → Reply → List ℕ
+
 -- the size of the rest, and the rest
-abbrev pub ResponsesAreFramed : Type 0
-ResponsesAreFramed =
+abbrev pub ResponsesAreFramed : ResponseRule → Type 0
+ResponsesAreFramed response =
     (correlation : ℤ) (r : Reply) (api : Api) → sent_as r ≡ Some api
     → negsuc 2147483647 ≤ℤ correlation → correlation <ℤ pos 2147483648
     → length (after_size correlation api r) < 2147483648

@@ -15,7 +15,7 @@ use Rattle.msg_admin.specs.declared.reply.Reply.TheVariants as replies
 use Rattle.audit_trail.specs.declared.event.Event.TheVariants.{Ask}
 use Rattle.broker_world.specs.World.{World}
 use Rattle.broker_world.specs.First.{first_world}
-use Rattle.api_dispatch.specs.Step.{reply_to}
+use Rattle.api_laws.specs.AskedTable.{AnswerRule}
 
 -- ---- Metadata
 
@@ -64,8 +64,8 @@ pub record IsNodeOf (s : Settings) (w : World) : Type 0 where
   pub host : w.node.host ≡ s.host
   pub port : w.node.port ≡ s.port
 
--- whatever the world is and whoever asks
-pub record OneNodeIsAll : Type 0 where
+-- the node of the settings leads everything, whatever the world is and whoever asks
+pub record OneNodeIsAll (reply_to : AnswerRule) : Type 0 where
   pub first : (s : Settings) → IsNodeOf s (first_world s)
   pub listed : (w : World) (caller : Caller) (client : Option (List ℕ)) (m : MetadataRequest)
       (reply : MetadataReply)

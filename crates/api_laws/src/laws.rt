@@ -1,5 +1,9 @@
 //! The laws of each api, each the contract of a function with nothing to do.
 
+ghost use Rattle.acl_handlers.specs.CreateAcls.{create_acls_outcome};
+ghost use Rattle.acl_handlers.specs.DeleteAcls.{delete_acls_outcome};
+ghost use Rattle.api_dispatch.specs.Step.{reply_to};
+ghost use Rattle.msg_admin.specs.Response.{response};
 ghost use Rattle.data_handlers.specs.Fetch.{fetch_outcome};
 ghost use Rattle.data_handlers.specs.Metadata.{metadata_topics};
 ghost use Rattle.partition_log.specs.Fetch.{served_of};
@@ -31,7 +35,7 @@ ghost use Rattle.api_laws.specs.KeptOut.{RefusedKeepsOut};
 ghost use Rattle.api_laws.specs.Unchanged.{ErrorsChangeNothing};
 ghost use Rattle.api_laws.specs.BareAnswers.{RefusalsTellNothing};
 ghost use Rattle.api_laws.specs.ErrorCases.{ErrorsAreAnswered};
-ghost use Rattle.api_laws.specs.Wrong.{code_of_ids_as_groups, code_of_topics, fetch_keeping_the_budget, fetch_without_max_bytes, serving_one_less, serving_to_the_end, serving_too_much, topics_for_everybody, topics_for_nobody};
+ghost use Rattle.api_laws.specs.Wrong.{code_of_ids_as_groups, code_of_topics, creating_alone, creating_nothing, deleting_everything, deleting_nothing, fetch_keeping_the_budget, fetch_without_max_bytes, reply_to_alterers, reply_to_anybody, reply_without_brokers, reply_without_leaders, response_under_another_id, response_without_size, serving_one_less, serving_to_the_end, serving_too_much, topics_for_everybody, topics_for_nobody};
 
 /// A list of events that a core takes without a stop gives a receipt for each event, in order, and leaves the core in the state
 /// to which these events lead.
@@ -77,7 +81,9 @@ pub fn last_stable_is_exact()
 /// Each response begins with the size of what follows, and the correlation id of its request. Between that and the body stands
 /// nothing but, in a flexible version (KIP-482), an empty section of tagged fields.
 pub fn responses_are_framed()
-    ensures { ResponsesAreFramed }
+    ensures framed { ResponsesAreFramed response }
+    ensures own_id { ¬ ResponsesAreFramed response_under_another_id }
+    ensures sized { ¬ ResponsesAreFramed response_without_size }
 {}
 
 /// A part of a request that is refused is told TOPIC_, GROUP_, CLUSTER_ or TRANSACTIONAL_ID_AUTHORIZATION_FAILED (29, 30, 31,
@@ -91,7 +97,9 @@ pub fn refusals_by_number()
 /// The node of the settings is the only broker, the controller, the leader and the only replica of each partition, and the
 /// coordinator of each group and each transactional id.
 pub fn one_node_is_all()
-    ensures { OneNodeIsAll }
+    ensures all { OneNodeIsAll reply_to }
+    ensures leading { ¬ OneNodeIsAll reply_without_leaders }
+    ensures listed { ¬ OneNodeIsAll reply_without_brokers }
 {}
 
 /// What a Metadata request is answered depends only on what it is allowed to see: worlds that agree on that answer it the same.
@@ -156,13 +164,17 @@ pub fn list_offsets_depends_on_grants()
 /// After a CreateAcls that is allowed, each of its entries that is a valid binding is among the ACLs, whatever its other entries
 /// are. The ACLs of before stand before those that are new, and each new one is an entry.
 pub fn creates_each()
-    ensures { CreatesEach }
+    ensures created { CreatesEach create_acls_outcome }
+    ensures something { ¬ CreatesEach creating_nothing }
+    ensures beside { ¬ CreatesEach creating_alone }
 {}
 
 /// After a DeleteAcls that is allowed, none of its filters matches an ACL any more. Each ACL that none matched is there as before,
 /// and there is no other.
 pub fn deletes_each()
-    ensures { DeletesEach }
+    ensures deleted { DeletesEach delete_acls_outcome }
+    ensures something { ¬ DeletesEach deleting_nothing }
+    ensures no_other { ¬ DeletesEach deleting_everything }
 {}
 
 /// A DescribeAcls tells each ACL binding that its filter matches, once, grouped by resource type, name and pattern type.
@@ -279,7 +291,9 @@ pub fn last_five_repeat()
 /// One table says for which operations on which resources each api has to be authorized. A request, and each of its parts at its
 /// place, is told the error of the first of its rows that isn't granted; nobody else is told such an error.
 pub fn asks_by_table()
-    ensures { AsksByTable }
+    ensures asked { AsksByTable reply_to }
+    ensures something { ¬ AsksByTable reply_to_anybody }
+    ensures by_operation { ¬ AsksByTable reply_to_alterers }
 {}
 
 /// The refusals that the trail keeps of a request are those of the same table: for each refused part the first of its rows that
