@@ -1,11 +1,11 @@
 -- From the client's word to what consumers are shown.
-use Rattle.std.proofs.Common.{◌≡◌, ℕ, zero, suc, ℤ, pos, negsuc, ◌+◌, ◌≤◌, List, [], ◌∷◌, ◌++◌, length, Option, Some, None, Bool, true, false, cond, refl, sym, ap, subst, ◌∙◌, inl, inr, ◌⊎◌, append_assoc, arith}
+use Rattle.std.proofs.Common.{◌≡◌, ℕ, ℤ, pos, ◌+◌, List, [], ◌∷◌, ◌++◌, length, Option, Some, Bool, true, false, cond, refl, sym, ap, subst, ◌∙◌, inl, inr, ◌⊎◌, append_assoc, arith}
 use Rattle.std.specs.Prelude.{◌+ℤ◌, ◌≤ℤ◌, ◌<ℤ◌, int_le, int_lt, ◌&&◌}
 use Rattle.std.proofs.lemmas.Int.{ints}
 use Rattle.record_batch.specs.declared.transaction_result.TransactionResult.{TransactionResult}
 use Rattle.record_batch.specs.declared.record.Rec.{Rec}
 use Rattle.record_batch.specs.declared.record.RecordAt.{RecordAt}
-use Rattle.record_batch.specs.Batch.{BatchData, IsBatch, IsMarked, next_offset, placed_records, record_at_place, marker_record}
+use Rattle.record_batch.specs.Batch.{BatchData, IsBatch, IsMarked, next_offset, placed_records, marker_record}
 use Rattle.partition_log.specs.Log.{IsLog, IsGapless, is_commit, is_committed, records_within, committed_records, records_of}
 use Rattle.partition_log.proofs.Fetched.{filtered_committed}
 use Rattle.partition_log.proofs.Numbers.{lt_true, le_true}
@@ -15,7 +15,7 @@ use Rattle.group_offsets.specs.declared.event.OffsetEvent.TheVariants.{Decide}
 use Rattle.group_offsets.specs.declared.event.PartitionOffset.{PartitionOffset}
 use Rattle.group_offsets.specs.Offsets.{offset_of}
 use Rattle.group_offsets.specs.Laws.{or_else, pending_offset}
-use Rattle.txn_laws.specs.Sound.{Each, IsAmong}
+use Rattle.txn_laws.specs.Sound.{IsAmong}
 use Rattle.txn_laws.proofs.Base.{each_weaker}
 use Rattle.broker_world.specs.World.{World, LogValue}
 use Rattle.broker_world.specs.Logs.{HoldLogs}
@@ -23,7 +23,7 @@ use Rattle.broker_world.proofs.Held.{log_is}
 use Rattle.txn_handlers.specs.EndTxn.{ending_of}
 use Rattle.broker_laws.specs.Laws.{IsDecided, committed_after}
 use Rattle.broker_laws.specs.LogEnds.{IsEndedLog, IsEndedAt}
-use Rattle.broker_laws.specs.CommitAbort.{type_of, IsMarker, view_end, IsShownIf, EndsInLog, EndsInGroup, EndsAt, EndsThrough, CommitsAreShown}
+use Rattle.broker_laws.specs.CommitAbort.{type_of, IsMarker, view_end, IsShownIf, EndsInLog, EndsInGroup, EndsAt, CommitsAreShown}
 use Rattle.api_laws.proofs.LastStable.{batch_at, stands_open}
 use Rattle.broker_laws.proofs.Trailing.{trail_tells, completes_over_a_trail}
 

@@ -13,7 +13,7 @@ use Rattle.acl_binding.proofs.Same.{same_is_equal, equal_is_same}
 use Rattle.settings.specs.declared.settings.TopicSetting.{TopicSetting}
 use Rattle.settings.specs.Fault.{is_within, is_topic_within}
 use Rattle.broker_world.specs.World.{LogValue}
-use Rattle.broker_world.specs.First.{non_negative, with_bindings, empty_logs, first_topics}
+use Rattle.broker_world.specs.First.{non_negative, with_bindings, empty_logs, first_topics, first_world}
 use Rattle.broker_world.proofs.InRange.{faultless_in_range, topics_in_range}
 use Rattle.txn_laws.specs.Sound.{IsAmong}
 use Rattle.broker_laws.specs.FirstWorld.{bindings_of, AreAllDifferent, AreNumberedFrom, AreFirstBindings, AreFirstTopics, FirstWorldIsTheSettings}
@@ -172,7 +172,7 @@ first_topics_are (t ∷ ts) h =
     let parts = and_parts (is_topic_within t) (list_all is_topic_within ts) h in
     (record { named = refl; as_many = partitions t.partitions parts.0; empty = are_empty (non_negative t.partitions) }, first_topics_are ts parts.1)
 
-pub first_is : FirstWorldIsTheSettings
+pub first_is : FirstWorldIsTheSettings first_world
 first_is s none = record {
   bindings = first_bindings s.acls;
   topics = first_topics_are s.topics (topics_in_range s (faultless_in_range s none));

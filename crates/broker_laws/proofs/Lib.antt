@@ -35,3 +35,4 @@ pub mod ToldTopics
 pub mod Transacted
 pub mod RoundTrips
 pub mod TransitionCodes
+pub mod Wrong

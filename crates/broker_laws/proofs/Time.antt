@@ -106,7 +106,7 @@ members w v is = record {
   others = λ i g before other. ap (λ (l : List Group). slice_get l i) is ∙ changed_at (group_expired v.moment) w.groups i g before ∙ ap (λ (x : Group). Some x) (group_stays v.moment g other);
 }
 
-pub ends : (w : World) → TicksEndWhatIsOver w
+pub ends : TicksEndWhatIsOver step
 ends w told = record {
   moment = shows w told;
   transactions = transactions w (step w (Tick told)) refl;

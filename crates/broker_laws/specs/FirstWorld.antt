@@ -8,7 +8,6 @@ use Rattle.settings.specs.declared.settings.TopicSetting.{TopicSetting}
 use Rattle.settings.specs.Fault.{first_fault}
 use Rattle.txn_laws.specs.Sound.{IsAmong}
 use Rattle.broker_world.specs.World.{World, TopicValue, LogValue}
-use Rattle.broker_world.specs.First.{first_world}
 
 -- ---- the bindings
 
@@ -63,5 +62,11 @@ pub record IsFirstWorld (s : Settings) (w : World) : Type 0 where
   pub max_batch : w.node.max_batch ≡ s.max_batch
   pub max_txn_timeout : w.node.max_txn_timeout ≡ s.max_txn_timeout
 
-abbrev pub FirstWorldIsTheSettings : Type 0
-FirstWorldIsTheSettings = (s : Settings) → first_fault s ≡ None → IsFirstWorld s (first_world s)
+-- the world that settings begin with
+abbrev pub FirstRule : Type 0
+FirstRule = Settings → World
+
+-- settings without a fault begin with what they say, and with nothing else
+abbrev pub FirstWorldIsTheSettings : FirstRule → Type 0
+FirstWorldIsTheSettings first_world =
+    (s : Settings) → first_fault s ≡ None → IsFirstWorld s (first_world s)

@@ -11,3 +11,4 @@ pub mod Members
 pub mod Commits
 pub mod Fetches
 pub mod MemberCodes
+pub mod Wrong

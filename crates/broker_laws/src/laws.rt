@@ -1,7 +1,10 @@
 //! The laws of the whole broker, each the contract of a function with nothing to do. Most hold of the world that any list of
 //! events reaches from any settings (`world_after_events`), and so of each core that isn't down (`cores`).
 
+ghost use Rattle.api_dispatch.specs.Step.{step};
+ghost use Rattle.broker_world.specs.First.{first_world};
 ghost use Rattle.broker_world.specs.World.{World};
+ghost use Rattle.broker_laws.specs.Wrong.{first_for_everybody, first_without_acls, step_ending_early, step_going_back, step_without_lapses};
 ghost use Rattle.broker_laws.specs.Targets.{HasTargets};
 ghost use Rattle.broker_laws.specs.Laws.{InReached, InCores};
 ghost use Rattle.broker_laws.specs.Laws.{EntriesAreTheLog, IsMoved, EventsAreMoves};
@@ -21,13 +24,18 @@ ghost use Rattle.broker_laws.specs.Fetches.{FetchesByEvents, CommitsAreFetched};
 /// A broker begins with the ACL bindings of its settings, each once, numbered from 1, and in their order where all are different;
 /// and with their topics in order, each with so many empty partitions.
 pub fn first_world_is_the_settings()
-    ensures { FirstWorldIsTheSettings }
+    ensures first { FirstWorldIsTheSettings first_world }
+    ensures supers { ¬ FirstWorldIsTheSettings first_for_everybody }
+    ensures acls { ¬ FirstWorldIsTheSettings first_without_acls }
 {}
 
 /// The broker's time never goes back. A tick aborts each open transaction whose timeout is over, removes each member of which
 /// nothing was heard for longer than its session timeout, and leaves all other transactions and groups as they were.
 pub fn ticks_end_what_is_over()
-    ensures { (w : World) → TicksEndWhatIsOver w }
+    ensures ends { TicksEndWhatIsOver step }
+    ensures never_back { ¬ TicksEndWhatIsOver step_going_back }
+    ensures members { ¬ TicksEndWhatIsOver step_without_lapses }
+    ensures in_time { ¬ TicksEndWhatIsOver step_ending_early }
 {}
 
 /// The laws of transactions are about the real logs: what they see of a partition is its log, batch by batch, and of a group its
