@@ -99,15 +99,19 @@ SOURCES = (
     Source("commands/", none="the lines of scripts"),
     Source(
         "broker_keeping/src/operator_log.rt",
+        ((RUNNING, OF_SESSION, "of {who} from {host}: {why}"),),
+        table=RUNNING,
+        parts=("nobody",),
+    ),
+    Source(
+        "log_queue/src/log_message.rt",
         (
-            (RUNNING, OF_SESSION, "of {who} from {host}: {why}"),
             (FRAMES, "fails to log in"),
             (FRAMES, "asks before its login, or out of its order"),
             (FRAMES, "asks what isn't served"),
             (FRAMES, "ends before its login"),
         ),
-        table=RUNNING,
-        parts=("nobody",),
+        none="the level of a line",
     ),
     Source("log_queue/src/repeats.rt", table=RUNNING),
     Source("broker_keeping/src/watch.rt", table=RUNNING),

@@ -5,7 +5,7 @@ use crate::watch::is_nearly_full;
 use admission::Doorman;
 use core_reports::{LoggedRefusal, Started, counts_line, counts_of, start_line, unserved_words};
 use crossbeam_channel::Sender;
-use log_queue::{Level, LogMessage, LogWriter, Queued, SessionWords};
+use log_queue::{Level, LogMessage, LogWriter, Queued, SessionWords, StrangerAct};
 use request_handlers::{Core, MOST_SEATS};
 use session_pool::{DeskLedger, EndReason, Gate, LockedDesk};
 use std::alloc::{AllocError, Global};
@@ -19,15 +19,6 @@ use wire_types::{Bytes, Text};
 
 /// How many messages wait for the writer at most.
 const WAITING: usize = 1_024;
-
-/// What is said in short of sessions whose peers nobody knows.
-const FAILS_TO_LOG_IN: &str = "fails to log in";
-
-const ASKS_TOO_EARLY: &str = "asks before its login, or out of its order";
-
-const ASKS_UNSERVED: &str = "asks what isn't served";
-
-const ENDS_UNKNOWN: &str = "ends before its login";
 
 /// After how many seconds of waiting for a worker it is logged that a connection is served.
 const LONG: u64 = 1;
@@ -130,13 +121,18 @@ impl<'r, R: Wait + time::Clock> OperatorLog<'r, R> {
         self.dropped.fetch_add(lines, Ordering::SeqCst);
     }
 
-    /// Logs words about a session, and says how they are told in short; nothing for `None`.
-    fn info_of_session(&self, session: u64, words: Option<String>, in_short: Option<&'static str>) {
+    /// Logs words about a session, and what a stranger did, if one did it; nothing where there are no words.
+    fn info_of_session(
+        &self,
+        session: u64,
+        words: Option<String>,
+        by_stranger: Option<StrangerAct>,
+    ) {
         if let Some(words) = words {
             self.hand(LogMessage::OfSession(SessionWords {
                 session,
                 words,
-                in_short,
+                by_stranger,
             }));
         }
     }
@@ -221,15 +217,15 @@ impl<'r, R: Wait + time::Clock> OperatorLog<'r, R> {
 
     /// Logs that a session ended, whose it was (`nobody` before a login), from which host, and why.
     fn tell_end<D: Display + Drop>(&self, session: u64, host: &Text, who: Option<&Text>, why: D) {
-        let in_short = if who.is_some() {
+        let by_stranger = if who.is_some() {
             None
         } else {
-            Some(ENDS_UNKNOWN)
+            Some(StrangerAct::Ends)
         };
         let host = host.as_str();
         let who = who.map_or("nobody", |who| who.as_str());
         let words = format!(in self.alloc; "of {who} from {host}: {why}");
-        self.info_of_session(session, words.ok(), in_short);
+        self.info_of_session(session, words.ok(), by_stranger);
     }
 
     /// Has the writer end after the messages that are queued. Where the queue is full this waits until it isn't, and where the
@@ -249,18 +245,18 @@ impl<'r, R: Wait + time::Clock> Gate for OperatorLog<'r, R> {
     /// Logs which api the frame asks, and which versions of the api are served.
     fn malformed(&self, session: u64, kept: &[u8]) {
         let words = unserved_words(self.alloc, kept);
-        self.info_of_session(session, words, Some(ASKS_UNSERVED));
+        self.info_of_session(session, words, Some(StrangerAct::AsksUnserved));
     }
 
     /// Logs why the session's login failed, or what it asked before the login.
     fn refused(&self, session: u64, kept: &Bytes, is_answered: bool) {
-        let in_short = if is_answered {
-            FAILS_TO_LOG_IN
+        let act = if is_answered {
+            StrangerAct::FailsToLogIn
         } else {
-            ASKS_TOO_EARLY
+            StrangerAct::AsksTooEarly
         };
         let words = refused_words(self.alloc, kept, is_answered);
-        self.info_of_session(session, words, Some(in_short));
+        self.info_of_session(session, words, Some(act));
     }
 
     /// Counts the end of a session, and logs it, unless the connection was closed between two requests.

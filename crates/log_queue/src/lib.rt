@@ -11,5 +11,5 @@ mod log_writer;
 mod repeats;
 mod stamps;
 
-pub use log_message::{Level, LogMessage, Queued, SessionWords};
+pub use log_message::{Level, LogMessage, Queued, SessionWords, StrangerAct};
 pub use log_writer::LogWriter;

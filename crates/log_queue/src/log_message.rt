@@ -25,6 +25,28 @@ impl Level {
     }
 }
 
+/// What somebody did who hasn't logged in. It is said in few words where much is said of sessions whose peers nobody knows: they
+/// choose names, and so could make each line a new one.
+#[derive(Clone, Copy, Debug, PartialEq, Eq)]
+pub enum StrangerAct {
+    FailsToLogIn,
+    AsksTooEarly,
+    AsksUnserved,
+    Ends,
+}
+
+impl StrangerAct {
+    /// Without a line feed.
+    pub(crate) fn words(self) -> &'static str {
+        match self {
+            StrangerAct::FailsToLogIn => "fails to log in",
+            StrangerAct::AsksTooEarly => "asks before its login, or out of its order",
+            StrangerAct::AsksUnserved => "asks what isn't served",
+            StrangerAct::Ends => "ends before its login",
+        }
+    }
+}
+
 /// What is said of a session.
 #[derive(Drop)]
 pub struct SessionWords {
@@ -32,9 +54,8 @@ pub struct SessionWords {
     pub session: u64,
     /// Without a line feed.
     pub words: String,
-    /// The same in few words, for when much is said of sessions whose peers nobody knows: they choose names, and so could make
-    /// each line a new one. `None` where the words are told in any case.
-    pub in_short: Option<&'static str>,
+    /// What is said in their place where much is said of strangers; `None` where the words are said in any case.
+    pub by_stranger: Option<StrangerAct>,
 }
 
 /// A message in the queue of the log.

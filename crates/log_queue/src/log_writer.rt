@@ -138,13 +138,14 @@ impl<E: Write + Drop> LogWriter<E> {
         let SessionWords {
             session,
             words,
-            in_short,
+            by_stranger,
         } = said;
         if self.count_again(moment, session, words.as_str()) {
             return;
         }
-        let words = match in_short {
-            Some(short) if !self.repeats.take_turn() => {
+        let words = match by_stranger {
+            Some(act) if !self.repeats.take_turn() => {
+                let short = act.words();
                 if self.count_again(moment, session, short) {
                     return;
                 }
