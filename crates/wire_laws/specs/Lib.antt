@@ -1,0 +1,4 @@
+pub mod Frames
+pub mod WrongFrames
+pub mod AclFrames
+pub mod WrongAcl
