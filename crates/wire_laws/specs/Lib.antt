@@ -2,3 +2,5 @@ pub mod Frames
 pub mod WrongFrames
 pub mod AclFrames
 pub mod WrongAcl
+pub mod DataFrames
+pub mod WrongData

@@ -5,7 +5,9 @@ ghost use Rattle.msg_admin.specs.Request.{request_at};
 ghost use Rattle.msg_admin.specs.Response.{response};
 ghost use Rattle.wire_laws.specs.AclFrames.{DescribeAclsRequestFrames, DescribeAclsResponseFrames, CreateAclsRequestFrame, CreateAclsResponseFrame, DeleteAclsRequestFrame, DeleteAclsResponseFrame};
 ghost use Rattle.wire_laws.specs.WrongAcl.{operation_and_permission_exchanged, principal_and_host_exchanged, null_names_are_empty, permissions_swapped, kind_and_pattern_exchanged, null_messages_are_empty};
-ghost use Rattle.wire_laws.specs.WrongFrames.{};
+ghost use Rattle.wire_laws.specs.DataFrames.{ProduceRequestFrames, ProduceResponseFrame, FetchRequestFrames, FetchResponseFrame, ListOffsetsRequestFrames, ListOffsetsResponseFrame, MetadataRequestFrames, MetadataResponseFrame};
+ghost use Rattle.wire_laws.specs.WrongData.{isolation_levels_swapped, waits_and_sizes_exchanged, null_topics_are_none, no_topics_are_all, acks_are_unsigned, null_records_are_empty, corrupt_and_invalid_swapped, base_offset_and_append_time_exchanged, high_watermark_and_last_stable_offset_exchanged, aborted_producer_and_offset_exchanged, null_aborted_is_empty, timestamp_and_offset_exchanged, internal_inverted, replicas_and_in_sync_exchanged};
+ghost use Rattle.wire_laws.specs.WrongFrames.{key_and_version_exchanged, null_client_is_empty, empty_client_is_null, size_counts_itself};
 
 /// A client's DescribeAcls of version 1 is read as the protocol guide lays it out, with null where anything fits. The answer
 /// tells each resource with its bindings, or the error.
@@ -39,4 +41,53 @@ pub fn delete_acls_frames()
     ensures not_null_names_are_empty { ¬ DeleteAclsRequestFrame null_names_are_empty }
     ensures answered { DeleteAclsResponseFrame response }
     ensures not_permissions_swapped { ¬ DeleteAclsResponseFrame permissions_swapped }
+{}
+
+/// A client's Produce of version 3 is read as the protocol guide lays it out: its transactional id or null, its acks, its
+/// timeout, and the records of each partition or null. The answer tells the error code and the offset of each.
+pub fn produce_frames()
+    ensures asked { ProduceRequestFrames request_at }
+    ensures not_null_client_is_empty { ¬ ProduceRequestFrames null_client_is_empty }
+    ensures not_acks_are_unsigned { ¬ ProduceRequestFrames acks_are_unsigned }
+    ensures not_null_records_are_empty { ¬ ProduceRequestFrames null_records_are_empty }
+    ensures answered { ProduceResponseFrame response }
+    ensures not_size_counts_itself { ¬ ProduceResponseFrame size_counts_itself }
+    ensures not_corrupt_and_invalid_swapped { ¬ ProduceResponseFrame corrupt_and_invalid_swapped }
+    ensures not_base_offset_and_append_time_exchanged { ¬ ProduceResponseFrame base_offset_and_append_time_exchanged }
+{}
+
+/// A client's Fetch of version 4 is read as the protocol guide lays it out, and its isolation level is READ_UNCOMMITTED for 0
+/// and READ_COMMITTED for 1. The answer tells the high watermark, the last stable offset, the aborted transactions and the
+/// records of each partition.
+pub fn fetch_frames()
+    ensures asked { FetchRequestFrames request_at }
+    ensures not_key_and_version_exchanged { ¬ FetchRequestFrames key_and_version_exchanged }
+    ensures not_empty_client_is_null { ¬ FetchRequestFrames empty_client_is_null }
+    ensures not_isolation_levels_swapped { ¬ FetchRequestFrames isolation_levels_swapped }
+    ensures not_waits_and_sizes_exchanged { ¬ FetchRequestFrames waits_and_sizes_exchanged }
+    ensures answered { FetchResponseFrame response }
+    ensures not_high_watermark_and_last_stable_offset_exchanged { ¬ FetchResponseFrame high_watermark_and_last_stable_offset_exchanged }
+    ensures not_aborted_producer_and_offset_exchanged { ¬ FetchResponseFrame aborted_producer_and_offset_exchanged }
+    ensures not_null_aborted_is_empty { ¬ FetchResponseFrame null_aborted_is_empty }
+{}
+
+/// A client's ListOffsets of version 2 is read as the protocol guide lays it out, at either isolation level. The answer tells
+/// the timestamp and the offset of each partition.
+pub fn list_offsets_frames()
+    ensures asked { ListOffsetsRequestFrames request_at }
+    ensures not_isolation_levels_swapped { ¬ ListOffsetsRequestFrames isolation_levels_swapped }
+    ensures answered { ListOffsetsResponseFrame response }
+    ensures not_timestamp_and_offset_exchanged { ¬ ListOffsetsResponseFrame timestamp_and_offset_exchanged }
+{}
+
+/// A client's Metadata of version 1 asks for all topics with null, and for none with an empty array. The answer tells the
+/// brokers, the controller, and of each topic whether it is internal, its leaders, replicas and in-sync replicas.
+pub fn metadata_frames()
+    ensures asked { MetadataRequestFrames request_at }
+    ensures not_null_topics_are_none { ¬ MetadataRequestFrames null_topics_are_none }
+    ensures not_no_topics_are_all { ¬ MetadataRequestFrames no_topics_are_all }
+    ensures answered { MetadataResponseFrame response }
+    ensures not_size_counts_itself { ¬ MetadataResponseFrame size_counts_itself }
+    ensures not_internal_inverted { ¬ MetadataResponseFrame internal_inverted }
+    ensures not_replicas_and_in_sync_exchanged { ¬ MetadataResponseFrame replicas_and_in_sync_exchanged }
 {}

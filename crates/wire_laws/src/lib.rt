@@ -3,4 +3,7 @@
 
 mod laws;
 
-pub use laws::{create_acls_frames, delete_acls_frames, describe_acls_frames};
+pub use laws::{
+    create_acls_frames, delete_acls_frames, describe_acls_frames, fetch_frames,
+    list_offsets_frames, metadata_frames, produce_frames,
+};
