@@ -4,3 +4,5 @@ pub mod AclFrames
 pub mod WrongAcl
 pub mod DataFrames
 pub mod WrongData
+pub mod TxnFrames
+pub mod WrongTxn

@@ -7,7 +7,9 @@ ghost use Rattle.wire_laws.specs.AclFrames.{DescribeAclsRequestFrames, DescribeA
 ghost use Rattle.wire_laws.specs.WrongAcl.{operation_and_permission_exchanged, principal_and_host_exchanged, null_names_are_empty, permissions_swapped, kind_and_pattern_exchanged, null_messages_are_empty};
 ghost use Rattle.wire_laws.specs.DataFrames.{ProduceRequestFrames, ProduceResponseFrame, FetchRequestFrames, FetchResponseFrame, ListOffsetsRequestFrames, ListOffsetsResponseFrame, MetadataRequestFrames, MetadataResponseFrame};
 ghost use Rattle.wire_laws.specs.WrongData.{isolation_levels_swapped, waits_and_sizes_exchanged, null_topics_are_none, no_topics_are_all, acks_are_unsigned, null_records_are_empty, corrupt_and_invalid_swapped, base_offset_and_append_time_exchanged, high_watermark_and_last_stable_offset_exchanged, aborted_producer_and_offset_exchanged, null_aborted_is_empty, timestamp_and_offset_exchanged, internal_inverted, replicas_and_in_sync_exchanged};
-ghost use Rattle.wire_laws.specs.WrongFrames.{key_and_version_exchanged, null_client_is_empty, empty_client_is_null, size_counts_itself};
+ghost use Rattle.wire_laws.specs.TxnFrames.{FindCoordinatorRequestFrames, FindCoordinatorResponseFrames, InitProducerIdRequestFrames, InitProducerIdResponseFrame, AddPartitionsToTxnRequestFrame, AddPartitionsToTxnResponseFrame, AddOffsetsToTxnRequestFrame, AddOffsetsToTxnResponseFrame, EndTxnRequestFrames, EndTxnResponseFrames, TxnOffsetCommitRequestFrames, TxnOffsetCommitResponseFrame};
+ghost use Rattle.wire_laws.specs.WrongTxn.{commits_and_aborts_swapped, version_5_is_version_4, transaction_and_group_exchanged, producer_and_epoch_exchanged, partitions_in_reverse, key_types_swapped, null_transactional_ids_are_empty, staged_offset_and_leader_epoch_exchanged, told_producer_and_epoch_exchanged, node_and_port_exchanged, throttles_are_zero};
+ghost use Rattle.wire_laws.specs.WrongFrames.{key_and_version_exchanged, null_client_is_empty, empty_client_is_null, size_counts_itself, headers_have_no_tags};
 
 /// A client's DescribeAcls of version 1 is read as the protocol guide lays it out, with null where anything fits. The answer
 /// tells each resource with its bindings, or the error.
@@ -90,4 +92,62 @@ pub fn metadata_frames()
     ensures not_size_counts_itself { ¬ MetadataResponseFrame size_counts_itself }
     ensures not_internal_inverted { ¬ MetadataResponseFrame internal_inverted }
     ensures not_replicas_and_in_sync_exchanged { ¬ MetadataResponseFrame replicas_and_in_sync_exchanged }
+{}
+
+/// A client's FindCoordinator of version 1 asks for the coordinator of a group with 0, and for that of a transactional id with
+/// 1. The answer tells its node, its host and its port.
+pub fn find_coordinator_frames()
+    ensures asked { FindCoordinatorRequestFrames request_at }
+    ensures not_key_types_swapped { ¬ FindCoordinatorRequestFrames key_types_swapped }
+    ensures answered { FindCoordinatorResponseFrames response }
+    ensures not_node_and_port_exchanged { ¬ FindCoordinatorResponseFrames node_and_port_exchanged }
+{}
+
+/// A client's InitProducerId of version 0 has a transactional id or null, and a timeout. The answer tells the producer id and
+/// the epoch.
+pub fn init_producer_id_frames()
+    ensures asked { InitProducerIdRequestFrames request_at }
+    ensures not_null_transactional_ids_are_empty { ¬ InitProducerIdRequestFrames null_transactional_ids_are_empty }
+    ensures answered { InitProducerIdResponseFrame response }
+    ensures not_told_producer_and_epoch_exchanged { ¬ InitProducerIdResponseFrame told_producer_and_epoch_exchanged }
+{}
+
+/// A client's AddPartitionsToTxn of version 0 is read as the protocol guide lays it out. The answer tells an error code for
+/// each partition.
+pub fn add_partitions_to_txn_frames()
+    ensures asked { AddPartitionsToTxnRequestFrame request_at }
+    ensures not_producer_and_epoch_exchanged { ¬ AddPartitionsToTxnRequestFrame producer_and_epoch_exchanged }
+    ensures not_partitions_in_reverse { ¬ AddPartitionsToTxnRequestFrame partitions_in_reverse }
+    ensures answered { AddPartitionsToTxnResponseFrame response }
+    ensures not_throttles_are_zero { ¬ AddPartitionsToTxnResponseFrame throttles_are_zero }
+{}
+
+/// A client's AddOffsetsToTxn of version 0 is read as the protocol guide lays it out. The answer tells an error code.
+pub fn add_offsets_to_txn_frames()
+    ensures asked { AddOffsetsToTxnRequestFrame request_at }
+    ensures not_transaction_and_group_exchanged { ¬ AddOffsetsToTxnRequestFrame transaction_and_group_exchanged }
+    ensures not_producer_and_epoch_exchanged { ¬ AddOffsetsToTxnRequestFrame producer_and_epoch_exchanged }
+    ensures answered { AddOffsetsToTxnResponseFrame response }
+    ensures not_throttles_are_zero { ¬ AddOffsetsToTxnResponseFrame throttles_are_zero }
+{}
+
+/// A client's EndTxn, in each version from 0 to 5, commits with 1 and aborts with 0, and has tagged fields from 3 on. So has
+/// its answer, which tells the producer id and the epoch in version 5.
+pub fn end_txn_frames()
+    ensures asked { EndTxnRequestFrames request_at }
+    ensures not_commits_and_aborts_swapped { ¬ EndTxnRequestFrames commits_and_aborts_swapped }
+    ensures not_version_5_is_version_4 { ¬ EndTxnRequestFrames version_5_is_version_4 }
+    ensures answered { EndTxnResponseFrames response }
+    ensures not_told_producer_and_epoch_exchanged { ¬ EndTxnResponseFrames told_producer_and_epoch_exchanged }
+{}
+
+/// A client's TxnOffsetCommit of version 3 is read as the protocol guide lays it out, in compact forms and with tagged fields.
+/// The answer tells an error code for each partition.
+pub fn txn_offset_commit_frames()
+    ensures asked { TxnOffsetCommitRequestFrames request_at }
+    ensures not_transaction_and_group_exchanged { ¬ TxnOffsetCommitRequestFrames transaction_and_group_exchanged }
+    ensures not_staged_offset_and_leader_epoch_exchanged { ¬ TxnOffsetCommitRequestFrames staged_offset_and_leader_epoch_exchanged }
+    ensures answered { TxnOffsetCommitResponseFrame response }
+    ensures not_headers_have_no_tags { ¬ TxnOffsetCommitResponseFrame headers_have_no_tags }
+    ensures not_throttles_are_zero { ¬ TxnOffsetCommitResponseFrame throttles_are_zero }
 {}

@@ -4,6 +4,8 @@
 mod laws;
 
 pub use laws::{
-    create_acls_frames, delete_acls_frames, describe_acls_frames, fetch_frames,
-    list_offsets_frames, metadata_frames, produce_frames,
+    add_offsets_to_txn_frames, add_partitions_to_txn_frames, create_acls_frames,
+    delete_acls_frames, describe_acls_frames, end_txn_frames, fetch_frames,
+    find_coordinator_frames, init_producer_id_frames, list_offsets_frames, metadata_frames,
+    produce_frames, txn_offset_commit_frames,
 };
