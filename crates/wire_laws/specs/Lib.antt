@@ -6,3 +6,5 @@ pub mod DataFrames
 pub mod WrongData
 pub mod TxnFrames
 pub mod WrongTxn
+pub mod GroupFrames
+pub mod WrongGroup

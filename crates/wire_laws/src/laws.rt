@@ -9,6 +9,8 @@ ghost use Rattle.wire_laws.specs.DataFrames.{ProduceRequestFrames, ProduceRespon
 ghost use Rattle.wire_laws.specs.WrongData.{isolation_levels_swapped, waits_and_sizes_exchanged, null_topics_are_none, no_topics_are_all, acks_are_unsigned, null_records_are_empty, corrupt_and_invalid_swapped, base_offset_and_append_time_exchanged, high_watermark_and_last_stable_offset_exchanged, aborted_producer_and_offset_exchanged, null_aborted_is_empty, timestamp_and_offset_exchanged, internal_inverted, replicas_and_in_sync_exchanged};
 ghost use Rattle.wire_laws.specs.TxnFrames.{FindCoordinatorRequestFrames, FindCoordinatorResponseFrames, InitProducerIdRequestFrames, InitProducerIdResponseFrame, AddPartitionsToTxnRequestFrame, AddPartitionsToTxnResponseFrame, AddOffsetsToTxnRequestFrame, AddOffsetsToTxnResponseFrame, EndTxnRequestFrames, EndTxnResponseFrames, TxnOffsetCommitRequestFrames, TxnOffsetCommitResponseFrame};
 ghost use Rattle.wire_laws.specs.WrongTxn.{commits_and_aborts_swapped, version_5_is_version_4, transaction_and_group_exchanged, producer_and_epoch_exchanged, partitions_in_reverse, key_types_swapped, null_transactional_ids_are_empty, staged_offset_and_leader_epoch_exchanged, told_producer_and_epoch_exchanged, node_and_port_exchanged, throttles_are_zero};
+ghost use Rattle.wire_laws.specs.GroupFrames.{OffsetCommitRequestFrame, OffsetCommitResponseFrame, OffsetFetchRequestFrames, OffsetFetchResponseFrame, JoinGroupRequestFrame, JoinGroupResponseFrame, HeartbeatRequestFrame, HeartbeatResponseFrame, LeaveGroupRequestFrame, LeaveGroupResponseFrame, SyncGroupRequestFrame, SyncGroupResponseFrame};
+ghost use Rattle.wire_laws.specs.WrongGroup.{heartbeat_and_leave_swapped, join_and_sync_swapped, group_and_member_exchanged, timeouts_exchanged, require_stable_inverted, null_offsets_are_none, null_metadata_is_empty, leader_and_member_exchanged, unknown_member_and_rebalance_swapped, fetched_offset_and_leader_epoch_exchanged, errors_are_none, assignments_are_empty};
 ghost use Rattle.wire_laws.specs.WrongFrames.{key_and_version_exchanged, null_client_is_empty, empty_client_is_null, size_counts_itself, headers_have_no_tags};
 
 /// A client's DescribeAcls of version 1 is read as the protocol guide lays it out, with null where anything fits. The answer
@@ -150,4 +152,65 @@ pub fn txn_offset_commit_frames()
     ensures answered { TxnOffsetCommitResponseFrame response }
     ensures not_headers_have_no_tags { ¬ TxnOffsetCommitResponseFrame headers_have_no_tags }
     ensures not_throttles_are_zero { ¬ TxnOffsetCommitResponseFrame throttles_are_zero }
+{}
+
+/// A client's OffsetCommit of version 2 is read as the protocol guide lays it out. The answer tells an error code for each
+/// partition.
+pub fn offset_commit_frames()
+    ensures asked { OffsetCommitRequestFrame request_at }
+    ensures not_group_and_member_exchanged { ¬ OffsetCommitRequestFrame group_and_member_exchanged }
+    ensures not_null_metadata_is_empty { ¬ OffsetCommitRequestFrame null_metadata_is_empty }
+    ensures answered { OffsetCommitResponseFrame response }
+    ensures not_errors_are_none { ¬ OffsetCommitResponseFrame errors_are_none }
+{}
+
+/// A client's OffsetFetch of version 7 asks for all offsets with null, and for none with an empty array, and for stable ones
+/// with 1. The answer tells each offset, its leader epoch, its metadata or null, and an error code.
+pub fn offset_fetch_frames()
+    ensures asked { OffsetFetchRequestFrames request_at }
+    ensures not_require_stable_inverted { ¬ OffsetFetchRequestFrames require_stable_inverted }
+    ensures not_null_offsets_are_none { ¬ OffsetFetchRequestFrames null_offsets_are_none }
+    ensures answered { OffsetFetchResponseFrame response }
+    ensures not_headers_have_no_tags { ¬ OffsetFetchResponseFrame headers_have_no_tags }
+    ensures not_fetched_offset_and_leader_epoch_exchanged { ¬ OffsetFetchResponseFrame fetched_offset_and_leader_epoch_exchanged }
+{}
+
+/// A client's JoinGroup of version 2 is read as the protocol guide lays it out. The answer tells the generation, the protocol,
+/// the leader, the member and the members.
+pub fn join_group_frames()
+    ensures asked { JoinGroupRequestFrame request_at }
+    ensures not_key_and_version_exchanged { ¬ JoinGroupRequestFrame key_and_version_exchanged }
+    ensures not_join_and_sync_swapped { ¬ JoinGroupRequestFrame join_and_sync_swapped }
+    ensures not_group_and_member_exchanged { ¬ JoinGroupRequestFrame group_and_member_exchanged }
+    ensures not_timeouts_exchanged { ¬ JoinGroupRequestFrame timeouts_exchanged }
+    ensures answered { JoinGroupResponseFrame response }
+    ensures not_leader_and_member_exchanged { ¬ JoinGroupResponseFrame leader_and_member_exchanged }
+{}
+
+/// A client's Heartbeat of version 1 has the api key 12, a group, a generation and a member. The answer tells an error code.
+pub fn heartbeat_frames()
+    ensures asked { HeartbeatRequestFrame request_at }
+    ensures not_heartbeat_and_leave_swapped { ¬ HeartbeatRequestFrame heartbeat_and_leave_swapped }
+    ensures not_group_and_member_exchanged { ¬ HeartbeatRequestFrame group_and_member_exchanged }
+    ensures answered { HeartbeatResponseFrame response }
+    ensures not_unknown_member_and_rebalance_swapped { ¬ HeartbeatResponseFrame unknown_member_and_rebalance_swapped }
+{}
+
+/// A client's LeaveGroup of version 1 has the api key 13, a group and a member. The answer tells an error code.
+pub fn leave_group_frames()
+    ensures asked { LeaveGroupRequestFrame request_at }
+    ensures not_heartbeat_and_leave_swapped { ¬ LeaveGroupRequestFrame heartbeat_and_leave_swapped }
+    ensures not_group_and_member_exchanged { ¬ LeaveGroupRequestFrame group_and_member_exchanged }
+    ensures answered { LeaveGroupResponseFrame response }
+    ensures not_unknown_member_and_rebalance_swapped { ¬ LeaveGroupResponseFrame unknown_member_and_rebalance_swapped }
+{}
+
+/// A client's SyncGroup of version 1 is read as the protocol guide lays it out. The answer tells an error code and the
+/// assignment.
+pub fn sync_group_frames()
+    ensures asked { SyncGroupRequestFrame request_at }
+    ensures not_join_and_sync_swapped { ¬ SyncGroupRequestFrame join_and_sync_swapped }
+    ensures not_group_and_member_exchanged { ¬ SyncGroupRequestFrame group_and_member_exchanged }
+    ensures answered { SyncGroupResponseFrame response }
+    ensures not_assignments_are_empty { ¬ SyncGroupResponseFrame assignments_are_empty }
 {}

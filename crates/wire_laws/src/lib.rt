@@ -6,6 +6,7 @@ mod laws;
 pub use laws::{
     add_offsets_to_txn_frames, add_partitions_to_txn_frames, create_acls_frames,
     delete_acls_frames, describe_acls_frames, end_txn_frames, fetch_frames,
-    find_coordinator_frames, init_producer_id_frames, list_offsets_frames, metadata_frames,
-    produce_frames, txn_offset_commit_frames,
+    find_coordinator_frames, heartbeat_frames, init_producer_id_frames, join_group_frames,
+    leave_group_frames, list_offsets_frames, metadata_frames, offset_commit_frames,
+    offset_fetch_frames, produce_frames, sync_group_frames, txn_offset_commit_frames,
 };
