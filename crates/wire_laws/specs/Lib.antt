@@ -8,3 +8,5 @@ pub mod TxnFrames
 pub mod WrongTxn
 pub mod GroupFrames
 pub mod WrongGroup
+pub mod LoginFrames
+pub mod WrongLogin

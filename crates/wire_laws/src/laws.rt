@@ -11,6 +11,8 @@ ghost use Rattle.wire_laws.specs.TxnFrames.{FindCoordinatorRequestFrames, FindCo
 ghost use Rattle.wire_laws.specs.WrongTxn.{commits_and_aborts_swapped, version_5_is_version_4, transaction_and_group_exchanged, producer_and_epoch_exchanged, partitions_in_reverse, key_types_swapped, null_transactional_ids_are_empty, staged_offset_and_leader_epoch_exchanged, told_producer_and_epoch_exchanged, node_and_port_exchanged, throttles_are_zero};
 ghost use Rattle.wire_laws.specs.GroupFrames.{OffsetCommitRequestFrame, OffsetCommitResponseFrame, OffsetFetchRequestFrames, OffsetFetchResponseFrame, JoinGroupRequestFrame, JoinGroupResponseFrame, HeartbeatRequestFrame, HeartbeatResponseFrame, LeaveGroupRequestFrame, LeaveGroupResponseFrame, SyncGroupRequestFrame, SyncGroupResponseFrame};
 ghost use Rattle.wire_laws.specs.WrongGroup.{heartbeat_and_leave_swapped, join_and_sync_swapped, group_and_member_exchanged, timeouts_exchanged, require_stable_inverted, null_offsets_are_none, null_metadata_is_empty, leader_and_member_exchanged, unknown_member_and_rebalance_swapped, fetched_offset_and_leader_epoch_exchanged, errors_are_none, assignments_are_empty};
+ghost use Rattle.wire_laws.specs.LoginFrames.{SaslHandshakeRequestFrame, SaslHandshakeResponseFrame, ApiVersionsRequestFrame, ApiVersionsResponseFrame, SaslAuthenticateRequestFrame, SaslAuthenticateResponseFrames};
+ghost use Rattle.wire_laws.specs.WrongLogin.{handshake_and_versions_swapped, auth_without_the_first_zero, min_and_max_exchanged, mechanism_and_state_swapped, null_reasons_are_empty};
 ghost use Rattle.wire_laws.specs.WrongFrames.{key_and_version_exchanged, null_client_is_empty, empty_client_is_null, size_counts_itself, headers_have_no_tags};
 
 /// A client's DescribeAcls of version 1 is read as the protocol guide lays it out, with null where anything fits. The answer
@@ -213,4 +215,29 @@ pub fn sync_group_frames()
     ensures not_group_and_member_exchanged { ¬ SyncGroupRequestFrame group_and_member_exchanged }
     ensures answered { SyncGroupResponseFrame response }
     ensures not_assignments_are_empty { ¬ SyncGroupResponseFrame assignments_are_empty }
+{}
+
+/// A client's SaslHandshake of version 1 names a mechanism. The answer tells an error code and the mechanisms.
+pub fn sasl_handshake_frames()
+    ensures asked { SaslHandshakeRequestFrame request_at }
+    ensures not_handshake_and_versions_swapped { ¬ SaslHandshakeRequestFrame handshake_and_versions_swapped }
+    ensures answered { SaslHandshakeResponseFrame response }
+    ensures not_mechanism_and_state_swapped { ¬ SaslHandshakeResponseFrame mechanism_and_state_swapped }
+{}
+
+/// A client's ApiVersions of version 0 is a header alone. The answer tells the first and the last version of each api.
+pub fn api_versions_frames()
+    ensures asked { ApiVersionsRequestFrame request_at }
+    ensures not_handshake_and_versions_swapped { ¬ ApiVersionsRequestFrame handshake_and_versions_swapped }
+    ensures answered { ApiVersionsResponseFrame response }
+    ensures not_min_and_max_exchanged { ¬ ApiVersionsResponseFrame min_and_max_exchanged }
+{}
+
+/// A client's SaslAuthenticate of version 0 has the bytes of the mechanism. The answer tells an error code, a message or null,
+/// and bytes.
+pub fn sasl_authenticate_frames()
+    ensures asked { SaslAuthenticateRequestFrame request_at }
+    ensures not_auth_without_the_first_zero { ¬ SaslAuthenticateRequestFrame auth_without_the_first_zero }
+    ensures answered { SaslAuthenticateResponseFrames response }
+    ensures not_null_reasons_are_empty { ¬ SaslAuthenticateResponseFrames null_reasons_are_empty }
 {}
