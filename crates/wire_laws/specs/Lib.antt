@@ -10,3 +10,8 @@ pub mod GroupFrames
 pub mod WrongGroup
 pub mod LoginFrames
 pub mod WrongLogin
+pub mod Tables
+pub mod Numbers
+pub mod WrongNumbers
+pub mod AclNumbers
+pub mod WrongAclNumbers

@@ -15,12 +15,15 @@ use Rattle.wire_laws.specs.WrongFrames.{null_is_empty, with_request, each}
 use Rattle.msg_admin.specs.declared.request.Request.TheVariants as requests
 use Rattle.msg_admin.specs.declared.reply.Reply.TheVariants as replies
 
+-- the next mistake, in a BindingEntry
 abbrev exchange_binding : BindingEntry → BindingEntry
 exchange_binding b = record b { operation = b.permission; permission = b.operation }
 
+-- the next mistake, in a FilterEntry
 abbrev exchange_filter : FilterEntry → FilterEntry
 exchange_filter f = record f { operation = f.permission; permission = f.operation }
 
+-- the next mistake, in a Request
 abbrev exchange_permissions : Request → Request
 exchange_permissions (requests.CreateAcls r) =
     requests.CreateAcls (record { creations = map exchange_binding r.creations })
@@ -34,6 +37,7 @@ exchange_permissions r = r
 abbrev pub operation_and_permission_exchanged : Decoder
 operation_and_permission_exchanged = with_request exchange_permissions request_at
 
+-- the next mistake, in a Request
 abbrev exchange_who : Request → Request
 exchange_who (requests.CreateAcls r) =
     requests.CreateAcls
@@ -54,9 +58,11 @@ exchange_who r = r
 abbrev pub principal_and_host_exchanged : Decoder
 principal_and_host_exchanged = with_request exchange_who request_at
 
+-- the next mistake, in a FilterEntry
 abbrev fill_name : FilterEntry → FilterEntry
 fill_name f = record f { name = null_is_empty f.name }
 
+-- the next mistake, in a Request
 abbrev fill_names : Request → Request
 fill_names (requests.DescribeAcls r) =
     requests.DescribeAcls (record { filter = fill_name r.filter })
@@ -69,20 +75,24 @@ fill_names r = r
 abbrev pub null_names_are_empty : Decoder
 null_names_are_empty = with_request fill_names request_at
 
+-- the next mistake, in a number
 abbrev other_permission : ℤ → ℤ
 other_permission n =
     if int_eq n (pos 2) then pos 3 else if int_eq n (pos 3) then pos 2 else n
 
+-- the next mistake, in a DescribedResource
 abbrev swap_described : DescribedResource → DescribedResource
 swap_described r =
     record r { acls = each r.acls (λ a. record a { permission = other_permission a.permission }) }
 
+-- the next mistake, in a DeletedAcl
 abbrev swap_deleted : DeletedAcl → DeletedAcl
 swap_deleted d =
     record d {
       binding = record d.binding { permission = other_permission d.binding.permission };
     }
 
+-- the next mistake, in a Reply
 abbrev swap_permissions : Reply → Reply
 swap_permissions (replies.DescribeAcls r) =
     replies.DescribeAcls (record r { resources = map swap_described r.resources })
@@ -95,6 +105,7 @@ swap_permissions r = r
 abbrev pub permissions_swapped : Encoder
 permissions_swapped correlation r = response correlation (swap_permissions r)
 
+-- the next mistake, in a Reply
 abbrev exchange_kinds : Reply → Reply
 exchange_kinds (replies.DescribeAcls r) =
     replies.DescribeAcls
@@ -107,6 +118,7 @@ exchange_kinds r = r
 abbrev pub kind_and_pattern_exchanged : Encoder
 kind_and_pattern_exchanged correlation r = response correlation (exchange_kinds r)
 
+-- the next mistake, in a Reply
 abbrev fill_messages : Reply → Reply
 fill_messages (replies.CreateAcls r) =
     replies.CreateAcls

@@ -21,10 +21,12 @@ use Rattle.msg_data.specs.declared.isolation.Isolation.TheVariants as levels
 use Rattle.msg_admin.specs.declared.request.Request.TheVariants as requests
 use Rattle.msg_admin.specs.declared.reply.Reply.TheVariants as replies
 
+-- the next mistake, in an Isolation
 abbrev other_level : Isolation → Isolation
 other_level levels.ReadUncommitted = levels.ReadCommitted
 other_level levels.ReadCommitted = levels.ReadUncommitted
 
+-- the next mistake, in a Request
 abbrev swap_levels : Request → Request
 swap_levels (requests.Fetch r) =
     requests.Fetch (record r { isolation = other_level r.isolation })
@@ -36,6 +38,7 @@ swap_levels r = r
 abbrev pub isolation_levels_swapped : Decoder
 isolation_levels_swapped = with_request swap_levels request_at
 
+-- the next mistake, in a Request
 abbrev exchange_waits : Request → Request
 exchange_waits (requests.Fetch r) =
     requests.Fetch (record r { max_wait = r.min_bytes; min_bytes = r.max_wait })
@@ -45,6 +48,7 @@ exchange_waits r = r
 abbrev pub waits_and_sizes_exchanged : Decoder
 waits_and_sizes_exchanged = with_request exchange_waits request_at
 
+-- the next mistake, in a Request
 abbrev empty_topics : Request → Request
 empty_topics (requests.Metadata r) = requests.Metadata (record { topics = null_is_empty r.topics })
 empty_topics r = r
@@ -53,6 +57,7 @@ empty_topics r = r
 abbrev pub null_topics_are_none : Decoder
 null_topics_are_none = with_request empty_topics request_at
 
+-- the next mistake, in a Request
 abbrev null_topics : Request → Request
 null_topics (requests.Metadata r) = requests.Metadata (record { topics = empty_is_null r.topics })
 null_topics r = r
@@ -61,6 +66,7 @@ null_topics r = r
 abbrev pub no_topics_are_all : Decoder
 no_topics_are_all = with_request null_topics request_at
 
+-- the next mistake, in a Request
 abbrev unsign_acks : Request → Request
 unsign_acks (requests.Produce r) =
     requests.Produce (record r { acks = pos (cast_unsigned w16 r.acks) })
@@ -70,9 +76,11 @@ unsign_acks r = r
 abbrev pub acks_are_unsigned : Decoder
 acks_are_unsigned = with_request unsign_acks request_at
 
+-- the next mistake, in a ProducedRecords
 abbrev fill_records : ProducedRecords → ProducedRecords
 fill_records p = record p { records = null_is_empty p.records }
 
+-- the next mistake, in a Request
 abbrev fill_produce : Request → Request
 fill_produce (requests.Produce r) =
     requests.Produce (record r { topics = each_partition r.topics fill_records })
@@ -82,11 +90,13 @@ fill_produce r = r
 abbrev pub null_records_are_empty : Decoder
 null_records_are_empty = with_request fill_produce request_at
 
+-- the next mistake, in an ErrorCode
 abbrev other_fault : ErrorCode → ErrorCode
 other_fault errors.CorruptMessage = errors.InvalidRecord
 other_fault errors.InvalidRecord = errors.CorruptMessage
 other_fault code = code
 
+-- the next mistake, in a Reply
 abbrev swap_faults : Reply → Reply
 swap_faults (replies.Produce r) =
     replies.Produce
@@ -97,10 +107,12 @@ swap_faults r = r
 abbrev pub corrupt_and_invalid_swapped : Encoder
 corrupt_and_invalid_swapped correlation r = response correlation (swap_faults r)
 
+-- the next mistake, in a ProducedOffset
 abbrev exchange_offsets : ProducedOffset → ProducedOffset
 exchange_offsets p =
     record p { base_offset = p.log_append_time; log_append_time = p.base_offset }
 
+-- the next mistake, in a Reply
 abbrev exchange_produced : Reply → Reply
 exchange_produced (replies.Produce r) =
     replies.Produce (record r { topics = each_partition r.topics exchange_offsets })
@@ -111,10 +123,12 @@ abbrev pub base_offset_and_append_time_exchanged : Encoder
 base_offset_and_append_time_exchanged correlation r =
     response correlation (exchange_produced r)
 
+-- the next mistake, in a FetchedRecords
 abbrev exchange_watermarks : FetchedRecords → FetchedRecords
 exchange_watermarks p =
     record p { high_watermark = p.last_stable_offset; last_stable_offset = p.high_watermark }
 
+-- the next mistake, in a Reply
 abbrev exchange_fetched : Reply → Reply
 exchange_fetched (replies.Fetch r) =
     replies.Fetch (record r { topics = each_partition r.topics exchange_watermarks })
@@ -125,9 +139,11 @@ abbrev pub high_watermark_and_last_stable_offset_exchanged : Encoder
 high_watermark_and_last_stable_offset_exchanged correlation r =
     response correlation (exchange_fetched r)
 
+-- the next mistake, in an AbortedTransaction
 abbrev exchange_aborted : AbortedTransaction → AbortedTransaction
 exchange_aborted t = record { producer = t.first_offset; first_offset = t.producer }
 
+-- the next mistake, in a Reply
 abbrev exchange_each_aborted : Reply → Reply
 exchange_each_aborted (replies.Fetch r) =
     replies.Fetch
@@ -143,6 +159,7 @@ abbrev pub aborted_producer_and_offset_exchanged : Encoder
 aborted_producer_and_offset_exchanged correlation r =
     response correlation (exchange_each_aborted r)
 
+-- the next mistake, in a Reply
 abbrev fill_aborted : Reply → Reply
 fill_aborted (replies.Fetch r) =
     replies.Fetch
@@ -155,6 +172,7 @@ fill_aborted r = r
 abbrev pub null_aborted_is_empty : Encoder
 null_aborted_is_empty correlation r = response correlation (fill_aborted r)
 
+-- the next mistake, in a Reply
 abbrev exchange_found : Reply → Reply
 exchange_found (replies.ListOffsets r) =
     replies.ListOffsets
@@ -169,6 +187,7 @@ exchange_found r = r
 abbrev pub timestamp_and_offset_exchanged : Encoder
 timestamp_and_offset_exchanged correlation r = response correlation (exchange_found r)
 
+-- the next mistake, in a Reply
 abbrev invert_internal : Reply → Reply
 invert_internal (replies.Metadata r) =
     replies.Metadata
@@ -179,9 +198,11 @@ invert_internal r = r
 abbrev pub internal_inverted : Encoder
 internal_inverted correlation r = response correlation (invert_internal r)
 
+-- the next mistake, in a PartitionInfo
 abbrev exchange_replicas : PartitionInfo → PartitionInfo
 exchange_replicas p = record p { replicas = p.in_sync; in_sync = p.replicas }
 
+-- the next mistake, in a Reply
 abbrev exchange_nodes : Reply → Reply
 exchange_nodes (replies.Metadata r) =
     replies.Metadata

@@ -37,14 +37,16 @@ each xs f = map f xs
 abbrev pub each_partition : {P : Type 0} → List (Topic P) → (P → P) → List (Topic P)
 each_partition topics f = each topics (λ t. record t { partitions = map f t.partitions })
 
--- one of two numbers is the other
+-- each of two numbers is taken for the other
 abbrev other_key : ℕ → ℕ → ℕ → ℕ
 other_key a b n = if n == a then b else if n == b then a else n
 
+-- the bytes of a frame with the other api key
 abbrev with_other_key : ℕ → ℕ → List ℕ → List ℕ
 with_other_key a b (high ∷ low ∷ rest) = high ∷ other_key a b low ∷ rest
 with_other_key a b bytes = bytes
 
+-- the api key that stood there
 abbrev key_again : ℕ → ℕ → ℤ → ℤ
 key_again a b (pos n) = pos (other_key a b n)
 key_again a b n = n

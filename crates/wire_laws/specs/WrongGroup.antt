@@ -20,6 +20,7 @@ heartbeat_and_leave_swapped = keys_swapped 12 13
 abbrev pub join_and_sync_swapped : Decoder
 join_and_sync_swapped = keys_swapped 11 14
 
+-- the next mistake, in a Request
 abbrev exchange_members : Request → Request
 exchange_members (requests.JoinGroup r) =
     requests.JoinGroup (record r { group = r.member; member = r.group })
@@ -37,6 +38,7 @@ exchange_members r = r
 abbrev pub group_and_member_exchanged : Decoder
 group_and_member_exchanged = with_request exchange_members request_at
 
+-- the next mistake, in a Request
 abbrev exchange_timeouts : Request → Request
 exchange_timeouts (requests.JoinGroup r) =
     requests.JoinGroup
@@ -47,6 +49,7 @@ exchange_timeouts r = r
 abbrev pub timeouts_exchanged : Decoder
 timeouts_exchanged = with_request exchange_timeouts request_at
 
+-- the next mistake, in a Request
 abbrev invert_stable : Request → Request
 invert_stable (requests.OffsetFetch r) =
     requests.OffsetFetch (record r { require_stable = not r.require_stable })
@@ -57,6 +60,7 @@ invert_stable r = r
 abbrev pub require_stable_inverted : Decoder
 require_stable_inverted = with_request invert_stable request_at
 
+-- the next mistake, in a Request
 abbrev fill_topics : Request → Request
 fill_topics (requests.OffsetFetch r) =
     requests.OffsetFetch (record r { topics = null_is_empty r.topics })
@@ -66,6 +70,7 @@ fill_topics r = r
 abbrev pub null_offsets_are_none : Decoder
 null_offsets_are_none = with_request fill_topics request_at
 
+-- the next mistake, in a Request
 abbrev fill_metadata : Request → Request
 fill_metadata (requests.OffsetCommit r) =
     requests.OffsetCommit
@@ -78,6 +83,7 @@ fill_metadata r = r
 abbrev pub null_metadata_is_empty : Decoder
 null_metadata_is_empty = with_request fill_metadata request_at
 
+-- the next mistake, in a Reply
 abbrev exchange_leaders : Reply → Reply
 exchange_leaders (replies.JoinGroup r) =
     replies.JoinGroup (record r { leader = r.member; member = r.leader })
@@ -87,11 +93,13 @@ exchange_leaders r = r
 abbrev pub leader_and_member_exchanged : Encoder
 leader_and_member_exchanged correlation r = response correlation (exchange_leaders r)
 
+-- the next mistake, in an ErrorCode
 abbrev other_code : ErrorCode → ErrorCode
 other_code errors.UnknownMemberId = errors.RebalanceInProgress
 other_code errors.RebalanceInProgress = errors.UnknownMemberId
 other_code code = code
 
+-- the next mistake, in a Reply
 abbrev swap_codes : Reply → Reply
 swap_codes (replies.Heartbeat r) =
     replies.Heartbeat (record r { error = other_code r.error })
@@ -103,6 +111,7 @@ swap_codes r = r
 abbrev pub unknown_member_and_rebalance_swapped : Encoder
 unknown_member_and_rebalance_swapped correlation r = response correlation (swap_codes r)
 
+-- the next mistake, in a Reply
 abbrev exchange_epochs : Reply → Reply
 exchange_epochs (replies.OffsetFetch r) =
     replies.OffsetFetch
@@ -118,6 +127,7 @@ abbrev pub fetched_offset_and_leader_epoch_exchanged : Encoder
 fetched_offset_and_leader_epoch_exchanged correlation r =
     response correlation (exchange_epochs r)
 
+-- the next mistake, in a Reply
 abbrev no_error : Reply → Reply
 no_error (replies.OffsetCommit r) =
     replies.OffsetCommit
@@ -128,6 +138,7 @@ no_error r = r
 abbrev pub errors_are_none : Encoder
 errors_are_none correlation r = response correlation (no_error r)
 
+-- the next mistake, in a Reply
 abbrev no_assignment : Reply → Reply
 no_assignment (replies.SyncGroup r) = replies.SyncGroup (record r { assignment = [] })
 no_assignment r = r

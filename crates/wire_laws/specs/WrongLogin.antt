@@ -16,6 +16,7 @@ use Rattle.msg_admin.specs.declared.reply.Reply.TheVariants as replies
 abbrev pub handshake_and_versions_swapped : Decoder
 handshake_and_versions_swapped = keys_swapped 17 18
 
+-- the next mistake, in a Request
 abbrev drop_zero : Request → Request
 drop_zero (requests.SaslAuthenticate r) =
     requests.SaslAuthenticate (record { auth = drop 1 r.auth })
@@ -25,6 +26,7 @@ drop_zero r = r
 abbrev pub auth_without_the_first_zero : Decoder
 auth_without_the_first_zero = with_request drop_zero request_at
 
+-- the next mistake, in a Reply
 abbrev exchange_versions : Reply → Reply
 exchange_versions (replies.ApiVersions r) =
     replies.ApiVersions
@@ -35,11 +37,13 @@ exchange_versions r = r
 abbrev pub min_and_max_exchanged : Encoder
 min_and_max_exchanged correlation r = response correlation (exchange_versions r)
 
+-- the next mistake, in an ErrorCode
 abbrev other_refusal : ErrorCode → ErrorCode
 other_refusal errors.UnsupportedSaslMechanism = errors.IllegalSaslState
 other_refusal errors.IllegalSaslState = errors.UnsupportedSaslMechanism
 other_refusal code = code
 
+-- the next mistake, in a Reply
 abbrev swap_refusals : Reply → Reply
 swap_refusals (replies.SaslHandshake r) =
     replies.SaslHandshake (record r { error = other_refusal r.error })
@@ -49,6 +53,7 @@ swap_refusals r = r
 abbrev pub mechanism_and_state_swapped : Encoder
 mechanism_and_state_swapped correlation r = response correlation (swap_refusals r)
 
+-- the next mistake, in a Reply
 abbrev fill_reason : Reply → Reply
 fill_reason (replies.SaslAuthenticate r) =
     replies.SaslAuthenticate (record r { message = null_is_empty r.message })

@@ -15,9 +15,11 @@ use Rattle.msg_txn.specs.declared.end_txn.EndTxnReply.TheVariants as ended
 use Rattle.msg_admin.specs.declared.request.Request.TheVariants as requests
 use Rattle.msg_admin.specs.declared.reply.Reply.TheVariants as replies
 
+-- the next mistake, in an EndTxn
 abbrev invert_end : EndTxn → EndTxn
 invert_end r = record r { committed = not r.committed }
 
+-- the next mistake, in an EndTxnRequest
 abbrev invert_ends : EndTxnRequest → EndTxnRequest
 invert_ends (end_txns.Version0 r) = end_txns.Version0 (invert_end r)
 invert_ends (end_txns.Version1 r) = end_txns.Version1 (invert_end r)
@@ -26,6 +28,7 @@ invert_ends (end_txns.Version3 r) = end_txns.Version3 (record { asked = invert_e
 invert_ends (end_txns.Version4 r) = end_txns.Version4 (record { asked = invert_end r.asked })
 invert_ends (end_txns.Version5 r) = end_txns.Version5 (record { asked = invert_end r.asked })
 
+-- the next mistake, in a Request
 abbrev swap_commits : Request → Request
 swap_commits (requests.EndTxn r) = requests.EndTxn (invert_ends r)
 swap_commits r = r
@@ -34,10 +37,12 @@ swap_commits r = r
 abbrev pub commits_and_aborts_swapped : Decoder
 commits_and_aborts_swapped = with_request swap_commits request_at
 
+-- the next mistake, in an EndTxnRequest
 abbrev lower_version : EndTxnRequest → EndTxnRequest
 lower_version (end_txns.Version5 r) = end_txns.Version4 r
 lower_version r = r
 
+-- the next mistake, in a Request
 abbrev lower_versions : Request → Request
 lower_versions (requests.EndTxn r) = requests.EndTxn (lower_version r)
 lower_versions r = r
@@ -46,6 +51,7 @@ lower_versions r = r
 abbrev pub version_5_is_version_4 : Decoder
 version_5_is_version_4 = with_request lower_versions request_at
 
+-- the next mistake, in a Request
 abbrev exchange_ids : Request → Request
 exchange_ids (requests.AddOffsetsToTxn r) =
     requests.AddOffsetsToTxn
@@ -59,6 +65,7 @@ exchange_ids r = r
 abbrev pub transaction_and_group_exchanged : Decoder
 transaction_and_group_exchanged = with_request exchange_ids request_at
 
+-- the next mistake, in a Request
 abbrev exchange_producers : Request → Request
 exchange_producers (requests.AddPartitionsToTxn r) =
     requests.AddPartitionsToTxn (record r { producer = r.epoch; epoch = r.producer })
@@ -70,6 +77,7 @@ exchange_producers r = r
 abbrev pub producer_and_epoch_exchanged : Decoder
 producer_and_epoch_exchanged = with_request exchange_producers request_at
 
+-- the next mistake, in a Request
 abbrev reverse_partitions : Request → Request
 reverse_partitions (requests.AddPartitionsToTxn r) =
     requests.AddPartitionsToTxn
@@ -80,9 +88,11 @@ reverse_partitions r = r
 abbrev pub partitions_in_reverse : Decoder
 partitions_in_reverse = with_request reverse_partitions request_at
 
+-- the next mistake, in a number
 abbrev other_type : ℤ → ℤ
 other_type n = if int_eq n (pos 0) then pos 1 else pos 0
 
+-- the next mistake, in a Request
 abbrev swap_types : Request → Request
 swap_types (requests.FindCoordinator r) =
     requests.FindCoordinator (record r { key_type = other_type r.key_type })
@@ -93,6 +103,7 @@ swap_types r = r
 abbrev pub key_types_swapped : Decoder
 key_types_swapped = with_request swap_types request_at
 
+-- the next mistake, in a Request
 abbrev fill_ids : Request → Request
 fill_ids (requests.InitProducerId r) =
     requests.InitProducerId
@@ -103,6 +114,7 @@ fill_ids r = r
 abbrev pub null_transactional_ids_are_empty : Decoder
 null_transactional_ids_are_empty = with_request fill_ids request_at
 
+-- the next mistake, in a Request
 abbrev exchange_staged : Request → Request
 exchange_staged (requests.TxnOffsetCommit r) =
     requests.TxnOffsetCommit
@@ -117,6 +129,7 @@ exchange_staged r = r
 abbrev pub staged_offset_and_leader_epoch_exchanged : Decoder
 staged_offset_and_leader_epoch_exchanged = with_request exchange_staged request_at
 
+-- the next mistake, in a Reply
 abbrev exchange_told : Reply → Reply
 exchange_told (replies.InitProducerId r) =
     replies.InitProducerId (record r { producer = r.epoch; epoch = r.producer })
@@ -128,6 +141,7 @@ exchange_told r = r
 abbrev pub told_producer_and_epoch_exchanged : Encoder
 told_producer_and_epoch_exchanged correlation r = response correlation (exchange_told r)
 
+-- the next mistake, in a Reply
 abbrev exchange_ports : Reply → Reply
 exchange_ports (replies.FindCoordinator r) =
     replies.FindCoordinator (record r { node = r.port; port = r.node })
@@ -137,6 +151,7 @@ exchange_ports r = r
 abbrev pub node_and_port_exchanged : Encoder
 node_and_port_exchanged correlation r = response correlation (exchange_ports r)
 
+-- the next mistake, in a Reply
 abbrev no_throttle : Reply → Reply
 no_throttle (replies.AddPartitionsToTxn r) =
     replies.AddPartitionsToTxn (record r { throttle = pos 0 })
