@@ -15,3 +15,6 @@ pub mod Numbers
 pub mod WrongNumbers
 pub mod AclNumbers
 pub mod WrongAclNumbers
+pub mod Batches
+pub mod BatchRules
+pub mod WrongBatches

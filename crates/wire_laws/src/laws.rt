@@ -25,6 +25,13 @@ ghost use Rattle.acl_binding.specs.WireNumbers.{kind_code, kind_at, pattern_code
 ghost use Rattle.wire_laws.specs.WrongAclNumbers.{group_and_transactional_numbers_swapped, group_and_transactional_read_swapped, group_and_transactional_names_swapped, group_and_transactional_names_read_swapped, literal_and_prefixed_numbers_swapped, literal_and_prefixed_read_swapped, literal_and_prefixed_names_swapped, literal_and_prefixed_names_read_swapped, any_and_match_numbers_swapped, any_and_match_read_swapped, read_and_write_numbers_swapped, read_and_write_read_swapped, read_and_write_names_swapped, read_and_write_names_read_swapped, deny_and_allow_numbers_swapped, deny_and_allow_read_swapped, deny_and_allow_names_swapped, deny_and_allow_names_read_swapped};
 ghost use Rattle.acl_binding.specs.Names.{kind_name, kind_named, pattern_name, pattern_named, operation_name, operation_named, permission_name, permission_named};
 ghost use Rattle.wire_laws.specs.WrongNumbers.{corrupt_and_invalid_numbers_swapped, version_and_mechanism_numbers_swapped, fenced_and_epoch_numbers_swapped, corrupt_and_invalid_read_swapped, version_and_mechanism_read_swapped, fenced_and_epoch_read_swapped, level_numbers_swapped, level_read_swapped, booleans_inverted, booleans_read_inverted, booleans_above_1_refused, heartbeat_and_leave_numbers_swapped, end_txn_flexible_from_4, heartbeat_and_leave_read_swapped};
+ghost use Rattle.wire_laws.specs.BatchRules.{AnswersBatches, code_answered, TellsUncompressed, TellsAppendTime, TellsTransactional, TellsControl, SumsKnown};
+ghost use Rattle.wire_laws.specs.WrongBatches.{sums_are_not_looked_at, corrupt_batches_are_invalid, compressed_batches_are_taken, append_times_are_taken, control_batches_are_taken, sizes_are_not_looked_at, timestamps_exchanged, epoch_and_sequence_exchanged, keys_and_values_exchanged, compression_is_0x01, append_time_is_0x10, transactional_is_0x20, control_is_0x40, outcomes_swapped, markers_with_0x50, types_swapped, crc32, not_inverted_at_the_end};
+ghost use Rattle.wire_laws.specs.Batches.{ReadsBatches, WritesMarkers, marker_bytes, NumbersOutcomes};
+ghost use Rattle.record_batch.specs.Batch.{batch_of_bytes, marker_type};
+ghost use Rattle.std.specs.Prelude.{None};
+ghost use Rattle.record_batch.specs.BatchHeader.{is_uncompressed, has_append_time, is_transactional, is_control};
+ghost use Rattle.record_batch.specs.Crc.{crc32c};
 
 /// A client's DescribeAcls of version 1 is read as the protocol guide lays it out, with null where anything fits. The answer
 /// tells each resource with its bindings, or the error.
@@ -378,4 +385,61 @@ pub fn permission_types_have_numbers()
     ensures name_read { ReadsNamesOfPermissions permission_named }
     ensures name_read_only { IsTheOnly ReadsNamesOfPermissions permission_named }
     ensures not_deny_and_allow_names_read_swapped { ¬ ReadsNamesOfPermissions deny_and_allow_names_read_swapped }
+{}
+
+/// A producer's batch is taken where it is whole and its sum is right. With any byte of its sum changed, or of those that the
+/// sum covers, it is answered 2 (CORRUPT_MESSAGE). A compressed one is answered 76, one with LogAppendTime 32, a control batch
+/// 87, and a batch that is too long 10.
+pub fn batches_are_answered()
+    ensures answered { AnswersBatches code_answered }
+    ensures not_sums_are_not_looked_at { ¬ AnswersBatches sums_are_not_looked_at }
+    ensures not_corrupt_batches_are_invalid { ¬ AnswersBatches corrupt_batches_are_invalid }
+    ensures not_compressed_batches_are_taken { ¬ AnswersBatches compressed_batches_are_taken }
+    ensures not_append_times_are_taken { ¬ AnswersBatches append_times_are_taken }
+    ensures not_control_batches_are_taken { ¬ AnswersBatches control_batches_are_taken }
+    ensures not_sizes_are_not_looked_at { ¬ AnswersBatches sizes_are_not_looked_at }
+{}
+
+/// A batch is read field by field as Kafka's documentation lays it out, and each record with its time, its key or null, its
+/// value and its headers.
+pub fn batches_are_read()
+    ensures read { ReadsBatches (batch_of_bytes None) }
+    ensures not_timestamps_exchanged { ¬ ReadsBatches timestamps_exchanged }
+    ensures not_epoch_and_sequence_exchanged { ¬ ReadsBatches epoch_and_sequence_exchanged }
+    ensures not_keys_and_values_exchanged { ¬ ReadsBatches keys_and_values_exchanged }
+{}
+
+/// The attributes of a batch tell the compression by 0x07, LogAppendTime by 0x08, a batch of a transaction by 0x10 and a
+/// control batch by 0x20, whatever their other bits are.
+pub fn attributes_tell()
+    ensures uncompressed { TellsUncompressed is_uncompressed }
+    ensures uncompressed_only { IsTheOnly TellsUncompressed is_uncompressed }
+    ensures not_compression_is_0x01 { ¬ TellsUncompressed compression_is_0x01 }
+    ensures append_time { TellsAppendTime has_append_time }
+    ensures append_time_only { IsTheOnly TellsAppendTime has_append_time }
+    ensures not_append_time_is_0x10 { ¬ TellsAppendTime append_time_is_0x10 }
+    ensures transactional { TellsTransactional is_transactional }
+    ensures transactional_only { IsTheOnly TellsTransactional is_transactional }
+    ensures not_transactional_is_0x20 { ¬ TellsTransactional transactional_is_0x20 }
+    ensures control { TellsControl is_control }
+    ensures control_only { IsTheOnly TellsControl is_control }
+    ensures not_control_is_0x40 { ¬ TellsControl control_is_0x40 }
+{}
+
+/// The marker that ends a transaction is written byte by byte as each client knows it: a transactional control batch, whose
+/// record's key has the type 1 for a COMMIT and 0 for an ABORT.
+pub fn markers_are_written()
+    ensures written { WritesMarkers marker_bytes }
+    ensures not_outcomes_swapped { ¬ WritesMarkers outcomes_swapped }
+    ensures not_markers_with_0x50 { ¬ WritesMarkers markers_with_0x50 }
+    ensures types { NumbersOutcomes marker_type }
+    ensures types_only { IsTheOnly NumbersOutcomes marker_type }
+    ensures not_types_swapped { ¬ NumbersOutcomes types_swapped }
+{}
+
+/// The sum of a batch is CRC-32C, by the values that RFC 3720 and all that compute it have for known bytes.
+pub fn sums_are_crc32c()
+    ensures sums { SumsKnown crc32c }
+    ensures not_crc32 { ¬ SumsKnown crc32 }
+    ensures not_inverted_at_the_end { ¬ SumsKnown not_inverted_at_the_end }
 {}
