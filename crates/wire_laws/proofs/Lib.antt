@@ -1,3 +1,4 @@
 pub mod Tables
 pub mod Numbers
 pub mod Batches
+pub mod AclWords

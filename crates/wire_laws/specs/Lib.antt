@@ -18,3 +18,5 @@ pub mod WrongAclNumbers
 pub mod Batches
 pub mod BatchRules
 pub mod WrongBatches
+pub mod AclWords
+pub mod WrongAclWords

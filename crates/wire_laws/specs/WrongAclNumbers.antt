@@ -16,7 +16,7 @@ use Rattle.acl_binding.specs.WireNumbers.{kind_code, pattern_code, filter_patter
 use Rattle.acl_binding.specs.Names.{kind_name, pattern_name, operation_name, permission_name, kind_named, pattern_named, operation_named, permission_named}
 
 -- each of the two is the other
-abbrev other_of_group_and_transactional : Kind → Kind
+abbrev pub other_of_group_and_transactional : Kind → Kind
 other_of_group_and_transactional kinds.Group = kinds.TransactionalId
 other_of_group_and_transactional kinds.TransactionalId = kinds.Group
 other_of_group_and_transactional word = word
@@ -41,7 +41,7 @@ group_and_transactional_names_read_swapped name =
     option_map other_of_group_and_transactional (kind_named name)
 
 -- each of the two is the other
-abbrev other_of_literal_and_prefixed : Pattern → Pattern
+abbrev pub other_of_literal_and_prefixed : Pattern → Pattern
 other_of_literal_and_prefixed patterns.Literal = patterns.Prefixed
 other_of_literal_and_prefixed patterns.Prefixed = patterns.Literal
 
@@ -65,7 +65,7 @@ literal_and_prefixed_names_read_swapped name =
     option_map other_of_literal_and_prefixed (pattern_named name)
 
 -- each of the two is the other
-abbrev other_of_any_and_match : FilterPattern → FilterPattern
+abbrev pub other_of_any_and_match : FilterPattern → FilterPattern
 other_of_any_and_match wanted.Any = wanted.Match
 other_of_any_and_match wanted.Match = wanted.Any
 other_of_any_and_match word = word
@@ -81,7 +81,7 @@ any_and_match_read_swapped number =
     option_map other_of_any_and_match (filter_pattern_at number)
 
 -- each of the two is the other
-abbrev other_of_read_and_write : Operation → Operation
+abbrev pub other_of_read_and_write : Operation → Operation
 other_of_read_and_write operation.Read = operation.Write
 other_of_read_and_write operation.Write = operation.Read
 other_of_read_and_write word = word
@@ -106,7 +106,7 @@ read_and_write_names_read_swapped name =
     option_map other_of_read_and_write (operation_named name)
 
 -- each of the two is the other
-abbrev other_of_deny_and_allow : Permission → Permission
+abbrev pub other_of_deny_and_allow : Permission → Permission
 other_of_deny_and_allow permissions.Deny = permissions.Allow
 other_of_deny_and_allow permissions.Allow = permissions.Deny
 

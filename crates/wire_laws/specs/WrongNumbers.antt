@@ -17,7 +17,7 @@ use Rattle.msg_admin.specs.declared.api_key.ServedApi.{ServedApi}
 use Rattle.msg_admin.specs.ApiKey.{served_api, key_at}
 
 -- each of the two is the other
-abbrev other_of_corrupt_and_invalid : ErrorCode → ErrorCode
+abbrev pub other_of_corrupt_and_invalid : ErrorCode → ErrorCode
 other_of_corrupt_and_invalid errors.CorruptMessage = errors.InvalidRecord
 other_of_corrupt_and_invalid errors.InvalidRecord = errors.CorruptMessage
 other_of_corrupt_and_invalid word = word
@@ -33,7 +33,7 @@ corrupt_and_invalid_read_swapped number =
     option_map other_of_corrupt_and_invalid (code_of number)
 
 -- each of the two is the other
-abbrev other_of_version_and_mechanism : ErrorCode → ErrorCode
+abbrev pub other_of_version_and_mechanism : ErrorCode → ErrorCode
 other_of_version_and_mechanism errors.UnsupportedVersion = errors.UnsupportedSaslMechanism
 other_of_version_and_mechanism errors.UnsupportedSaslMechanism = errors.UnsupportedVersion
 other_of_version_and_mechanism word = word
@@ -49,7 +49,7 @@ version_and_mechanism_read_swapped number =
     option_map other_of_version_and_mechanism (code_of number)
 
 -- each of the two is the other
-abbrev other_of_fenced_and_epoch : ErrorCode → ErrorCode
+abbrev pub other_of_fenced_and_epoch : ErrorCode → ErrorCode
 other_of_fenced_and_epoch errors.ProducerFenced = errors.InvalidProducerEpoch
 other_of_fenced_and_epoch errors.InvalidProducerEpoch = errors.ProducerFenced
 other_of_fenced_and_epoch word = word
@@ -65,7 +65,7 @@ fenced_and_epoch_read_swapped number =
     option_map other_of_fenced_and_epoch (code_of number)
 
 -- each of the two is the other
-abbrev other_of_level : Isolation → Isolation
+abbrev pub other_of_level : Isolation → Isolation
 other_of_level levels.ReadUncommitted = levels.ReadCommitted
 other_of_level levels.ReadCommitted = levels.ReadUncommitted
 
@@ -80,7 +80,7 @@ level_read_swapped number =
     option_map other_of_level (isolation_of number)
 
 -- each of the two is the other
-abbrev other_of_heartbeat_and_leave : ApiKey → ApiKey
+abbrev pub other_of_heartbeat_and_leave : ApiKey → ApiKey
 other_of_heartbeat_and_leave keys.Heartbeat = keys.LeaveGroup
 other_of_heartbeat_and_leave keys.LeaveGroup = keys.Heartbeat
 other_of_heartbeat_and_leave word = word

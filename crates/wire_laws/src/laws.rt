@@ -32,6 +32,8 @@ ghost use Rattle.record_batch.specs.Batch.{batch_of_bytes, marker_type};
 ghost use Rattle.std.specs.Prelude.{None};
 ghost use Rattle.record_batch.specs.BatchHeader.{is_uncompressed, has_append_time, is_transactional, is_control};
 ghost use Rattle.record_batch.specs.Crc.{crc32c};
+ghost use Rattle.wire_laws.specs.AclWords.{AsksForBindings, AsksForFilters, bindings_asked, filters_asked};
+ghost use Rattle.wire_laws.specs.WrongAclWords.{deny_is_allow, read_is_write, group_is_transactional_id, literal_is_prefixed, filtered_deny_is_allow, filtered_read_is_write, any_is_match, any_is_all};
 
 /// A client's DescribeAcls of version 1 is read as the protocol guide lays it out, with null where anything fits. The answer
 /// tells each resource with its bindings, or the error.
@@ -442,4 +444,19 @@ pub fn sums_are_crc32c()
     ensures sums { SumsKnown crc32c }
     ensures not_crc32 { ¬ SumsKnown crc32 }
     ensures not_inverted_at_the_end { ¬ SumsKnown not_inverted_at_the_end }
+{}
+
+/// What a client asks for by its bytes are bindings and filters in Kafka's words: 2 is a DENY and 3 an ALLOW, 3 is a READ and 4
+/// a WRITE, 1 in a filter is any. A creation or a filter with a number that is no word is none.
+pub fn acl_words_are_read()
+    ensures bindings { AsksForBindings bindings_asked }
+    ensures not_deny_is_allow { ¬ AsksForBindings deny_is_allow }
+    ensures not_read_is_write { ¬ AsksForBindings read_is_write }
+    ensures not_group_is_transactional_id { ¬ AsksForBindings group_is_transactional_id }
+    ensures not_literal_is_prefixed { ¬ AsksForBindings literal_is_prefixed }
+    ensures filters { AsksForFilters filters_asked }
+    ensures not_filtered_deny_is_allow { ¬ AsksForFilters filtered_deny_is_allow }
+    ensures not_filtered_read_is_write { ¬ AsksForFilters filtered_read_is_write }
+    ensures not_any_is_match { ¬ AsksForFilters any_is_match }
+    ensures not_any_is_all { ¬ AsksForFilters any_is_all }
 {}

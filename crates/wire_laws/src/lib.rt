@@ -4,14 +4,15 @@
 mod laws;
 
 pub use laws::{
-    add_offsets_to_txn_frames, add_partitions_to_txn_frames, api_versions_frames,
-    apis_have_numbers, attributes_tell, batches_are_answered, batches_are_read, booleans_are_bytes,
-    create_acls_frames, delete_acls_frames, describe_acls_frames, end_txn_frames,
-    error_codes_have_numbers, fetch_frames, filter_pattern_types_have_numbers,
-    find_coordinator_frames, heartbeat_frames, init_producer_id_frames,
-    isolation_levels_have_numbers, join_group_frames, leave_group_frames, list_offsets_frames,
-    markers_are_written, metadata_frames, offset_commit_frames, offset_fetch_frames,
-    operations_have_numbers, pattern_types_have_numbers, permission_types_have_numbers,
-    produce_frames, resource_types_have_numbers, sasl_authenticate_frames, sasl_handshake_frames,
-    sums_are_crc32c, sync_group_frames, txn_offset_commit_frames,
+    acl_words_are_read, add_offsets_to_txn_frames, add_partitions_to_txn_frames,
+    api_versions_frames, apis_have_numbers, attributes_tell, batches_are_answered,
+    batches_are_read, booleans_are_bytes, create_acls_frames, delete_acls_frames,
+    describe_acls_frames, end_txn_frames, error_codes_have_numbers, fetch_frames,
+    filter_pattern_types_have_numbers, find_coordinator_frames, heartbeat_frames,
+    init_producer_id_frames, isolation_levels_have_numbers, join_group_frames, leave_group_frames,
+    list_offsets_frames, markers_are_written, metadata_frames, offset_commit_frames,
+    offset_fetch_frames, operations_have_numbers, pattern_types_have_numbers,
+    permission_types_have_numbers, produce_frames, resource_types_have_numbers,
+    sasl_authenticate_frames, sasl_handshake_frames, sums_are_crc32c, sync_group_frames,
+    txn_offset_commit_frames,
 };
