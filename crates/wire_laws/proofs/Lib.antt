@@ -2,3 +2,4 @@ pub mod Tables
 pub mod Numbers
 pub mod Batches
 pub mod AclWords
+pub mod Versions

@@ -5,7 +5,7 @@ use Rattle.std.specs.List.{find}
 use Rattle.std.specs.Bool.{Decides}
 use Rattle.wire_laws.specs.Tables.{ReadsRows, IsInNoRow, ReadsNumbers, IsTheOnly}
 
-either : (b : Bool) → (b ≡ true) ⊎ (b ≡ false)
+pub either : (b : Bool) → (b ≡ true) ⊎ (b ≡ false)
 either true = inl refl
 either false = inr refl
 

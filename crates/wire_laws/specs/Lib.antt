@@ -20,3 +20,5 @@ pub mod BatchRules
 pub mod WrongBatches
 pub mod AclWords
 pub mod WrongAclWords
+pub mod Versions
+pub mod WrongVersions

@@ -34,6 +34,10 @@ ghost use Rattle.record_batch.specs.BatchHeader.{is_uncompressed, has_append_tim
 ghost use Rattle.record_batch.specs.Crc.{crc32c};
 ghost use Rattle.wire_laws.specs.AclWords.{AsksForBindings, AsksForFilters, bindings_asked, filters_asked};
 ghost use Rattle.wire_laws.specs.WrongAclWords.{deny_is_allow, read_is_write, group_is_transactional_id, literal_is_prefixed, filtered_deny_is_allow, filtered_read_is_write, any_is_match, any_is_all};
+ghost use Rattle.msg_admin.specs.Decode.{frame_at};
+ghost use Rattle.msg_admin.specs.Versions.{unsupported_response};
+ghost use Rattle.wire_laws.specs.Versions.{ReadsVersions, api_named, ReadsAnyVersion, TellsUnsupported, TellsVersions, versions_told};
+ghost use Rattle.wire_laws.specs.WrongVersions.{later_versions_are_served, other_versions_are_malformed, unsupported_is_no_error, unsupported_without_versions, heartbeat_and_leave_told_swapped, end_txn_5_is_not_told};
 
 /// A client's DescribeAcls of version 1 is read as the protocol guide lays it out, with null where anything fits. The answer
 /// tells each resource with its bindings, or the error.
@@ -459,4 +463,30 @@ pub fn acl_words_are_read()
     ensures not_filtered_read_is_write { ¬ AsksForFilters filtered_read_is_write }
     ensures not_any_is_match { ¬ AsksForFilters any_is_match }
     ensures not_any_is_all { ¬ AsksForFilters any_is_all }
+{}
+
+/// A client is served an api in each version from its first to its last, and in no other, by the protocol's numbers. No other
+/// rule says so.
+pub fn versions_are_served()
+    ensures read { ReadsVersions api_named }
+    ensures read_only { IsTheOnly ReadsVersions api_named }
+    ensures not_later_versions_are_served { ¬ ReadsVersions later_versions_are_served }
+{}
+
+/// A client that asks ApiVersions in a version that isn't served is answered 35 (UNSUPPORTED_VERSION) with the version that is,
+/// in a form that it can read. Any other request in such a version is malformed.
+pub fn other_versions_are_answered()
+    ensures frames { ReadsAnyVersion frame_at }
+    ensures not_other_versions_are_malformed { ¬ ReadsAnyVersion other_versions_are_malformed }
+    ensures unsupported { TellsUnsupported unsupported_response }
+    ensures not_unsupported_is_no_error { ¬ TellsUnsupported unsupported_is_no_error }
+    ensures not_unsupported_without_versions { ¬ TellsUnsupported unsupported_without_versions }
+{}
+
+/// ApiVersions tells a client each api that is served, with its number and its first and last version, in the order of the
+/// numbers.
+pub fn versions_are_told()
+    ensures told { TellsVersions versions_told }
+    ensures not_heartbeat_and_leave_told_swapped { ¬ TellsVersions heartbeat_and_leave_told_swapped }
+    ensures not_end_txn_5_is_not_told { ¬ TellsVersions end_txn_5_is_not_told }
 {}

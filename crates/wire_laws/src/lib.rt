@@ -11,8 +11,8 @@ pub use laws::{
     filter_pattern_types_have_numbers, find_coordinator_frames, heartbeat_frames,
     init_producer_id_frames, isolation_levels_have_numbers, join_group_frames, leave_group_frames,
     list_offsets_frames, markers_are_written, metadata_frames, offset_commit_frames,
-    offset_fetch_frames, operations_have_numbers, pattern_types_have_numbers,
-    permission_types_have_numbers, produce_frames, resource_types_have_numbers,
-    sasl_authenticate_frames, sasl_handshake_frames, sums_are_crc32c, sync_group_frames,
-    txn_offset_commit_frames,
+    offset_fetch_frames, operations_have_numbers, other_versions_are_answered,
+    pattern_types_have_numbers, permission_types_have_numbers, produce_frames,
+    resource_types_have_numbers, sasl_authenticate_frames, sasl_handshake_frames, sums_are_crc32c,
+    sync_group_frames, txn_offset_commit_frames, versions_are_served, versions_are_told,
 };
