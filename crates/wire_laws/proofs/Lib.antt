@@ -3,3 +3,4 @@ pub mod Numbers
 pub mod Batches
 pub mod AclWords
 pub mod Versions
+pub mod OtherFrames

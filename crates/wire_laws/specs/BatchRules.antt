@@ -8,6 +8,7 @@ use Rattle.record_batch.specs.declared.fault.BatchFault.{BatchFault}
 use Rattle.record_batch.specs.declared.header.BatchHeader.{BatchHeader}
 use Rattle.record_batch.specs.Fault.{code_of}
 use Rattle.record_batch.specs.Faults.{first_fault}
+use Rattle.wire_laws.specs.Frames.{repeated}
 use Rattle.wire_laws.specs.Batches.{plain_batch, producer_batch, compressed_batch, append_time_batch, control_batch, commit_marker}
 
 -- ---- what is answered
@@ -112,11 +113,6 @@ TellsControl test = (h : BatchHeader) (compression : ℕ)
     → HasAttributes h compression append_time transactional control above → test h ≡ control
 
 -- ---- sums (RFC 3720, appendix B.4)
-
--- so many times the same byte
-abbrev repeated : ℕ → ℕ → List ℕ
-repeated zero byte = []
-repeated (suc n) byte = byte ∷ repeated n byte
 
 -- so many bytes, each one more than the one before
 abbrev rising : ℕ → ℕ → List ℕ

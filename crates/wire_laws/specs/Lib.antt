@@ -22,3 +22,5 @@ pub mod AclWords
 pub mod WrongAclWords
 pub mod Versions
 pub mod WrongVersions
+pub mod OtherFrames
+pub mod WrongOtherFrames

@@ -1,10 +1,13 @@
 -- Wrong decoders and encoders, whatever the api: each is the right one, but for one mistake.
-use Rattle.std.specs.Prelude.{ℕ, ℤ, pos, ◌-◌, List, [], ◌∷◌, ◌++◌, length, drop, slice_range, map, ◌==◌, if◌then◌else◌, Option, Some, None, Ok}
+use Rattle.std.specs.Prelude.{ℕ, ℤ, pos, ◌-◌, List, [], ◌∷◌, ◌++◌, length, drop, slice_range, map, Bool, false, ◌==◌, if◌then◌else◌, Option, Some, None, Ok}
 use Rattle.wire_types.specs.declared.topic.Topic.{Topic}
 use Rattle.wire_types.specs.Reading.{◌>>=◌}
 use Rattle.wire_types.specs.Schema.{int32}
 use Rattle.msg_admin.specs.declared.header.Header.{Header}
 use Rattle.msg_admin.specs.declared.request.Request.{Request}
+use Rattle.msg_admin.specs.declared.api.Api.{Api}
+use Rattle.msg_admin.specs.Api.{is_flexible}
+use Rattle.msg_admin.specs.Bodies.{sent_as}
 use Rattle.msg_admin.specs.Request.{request_at}
 use Rattle.msg_admin.specs.Response.{response}
 use Rattle.wire_laws.specs.Frames.{Decoder, Encoder}
@@ -77,8 +80,18 @@ abbrev pub size_counts_itself : Encoder
 size_counts_itself correlation r =
     int32.written (pos (length (response correlation r))) ++ drop 4 (response correlation r)
 
--- the header of a response has no tagged fields, whatever the version
+-- the reply is sent in a flexible version
+abbrev is_sent_flexible : Option Api → Bool
+is_sent_flexible None = false
+is_sent_flexible (Some api) = is_flexible api
+
+-- the bytes of a response without the empty tagged section of its header
+abbrev without_tags : List ℕ → List ℕ
+without_tags bytes =
+    int32.written (pos (length bytes - 5)) ++ (slice_range bytes 4 8 ++ drop 9 bytes)
+
+-- the header of a response has no tagged fields, in a flexible version either
 abbrev pub headers_have_no_tags : Encoder
 headers_have_no_tags correlation r =
-    int32.written (pos (length (response correlation r) - 5))
-    ++ (slice_range (response correlation r) 4 8 ++ drop 9 (response correlation r))
+    if is_sent_flexible (sent_as r) then without_tags (response correlation r)
+    else response correlation r

@@ -1,5 +1,5 @@
-//! Laws about the bytes on the wire, each the contract of a function with nothing to do: a frame or a table of the protocol guide, of
-//! which the broker's own rule holds, and wrong ones don't.
+//! Laws about the bytes on the wire, each the contract of a function with nothing to do: a frame or a table of the protocol
+//! guide, which the broker's own rule goes by, and wrong ones don't.
 
 ghost use Rattle.msg_admin.specs.Request.{request_at};
 ghost use Rattle.msg_admin.specs.Response.{response};
@@ -38,6 +38,8 @@ ghost use Rattle.msg_admin.specs.Decode.{frame_at};
 ghost use Rattle.msg_admin.specs.Versions.{unsupported_response};
 ghost use Rattle.wire_laws.specs.Versions.{ReadsVersions, api_named, ReadsAnyVersion, TellsUnsupported, TellsVersions, versions_told};
 ghost use Rattle.wire_laws.specs.WrongVersions.{later_versions_are_served, other_versions_are_malformed, unsupported_is_no_error, unsupported_without_versions, heartbeat_and_leave_told_swapped, end_txn_5_is_not_told};
+ghost use Rattle.wire_laws.specs.OtherFrames.{RefusesFrames, ReadsLongTexts, SendsNothing};
+ghost use Rattle.wire_laws.specs.WrongOtherFrames.{a_byte_after_is_let_go, range_is_short, silent_produces_are_answered, names_are_cut_off};
 
 /// A client's DescribeAcls of version 1 is read as the protocol guide lays it out, with null where anything fits. The answer
 /// tells each resource with its bindings, or the error.
@@ -166,6 +168,7 @@ pub fn end_txn_frames()
     ensures not_commits_and_aborts_swapped { ¬ EndTxnRequestFrames commits_and_aborts_swapped }
     ensures not_version_5_is_version_4 { ¬ EndTxnRequestFrames version_5_is_version_4 }
     ensures answered { EndTxnResponseFrames response }
+    ensures not_headers_have_no_tags { ¬ EndTxnResponseFrames headers_have_no_tags }
     ensures not_told_producer_and_epoch_exchanged { ¬ EndTxnResponseFrames told_producer_and_epoch_exchanged }
 {}
 
@@ -489,4 +492,24 @@ pub fn versions_are_told()
     ensures told { TellsVersions versions_told }
     ensures not_heartbeat_and_leave_told_swapped { ¬ TellsVersions heartbeat_and_leave_told_swapped }
     ensures not_end_txn_5_is_not_told { ¬ TellsVersions end_txn_5_is_not_told }
+{}
+
+/// A frame that is no request has one fault, the first: a byte after it, a byte too few, a null or a number that its field
+/// can't be, a text that is no UTF-8, or an api or a version that isn't served.
+pub fn malformed_frames_are_refused()
+    ensures refused { RefusesFrames request_at }
+    ensures not_a_byte_after_is_let_go { ¬ RefusesFrames a_byte_after_is_let_go }
+    ensures not_range_is_short { ¬ RefusesFrames range_is_short }
+{}
+
+/// A text of more than 255 bytes is read whole, after a length of two bytes and after a compact one.
+pub fn long_texts_are_read()
+    ensures read { ReadsLongTexts request_at }
+    ensures not_names_are_cut_off { ¬ ReadsLongTexts names_are_cut_off }
+{}
+
+/// A client that asks a Produce with acks 0 is sent nothing.
+pub fn silent_replies_are_not_sent()
+    ensures nothing { SendsNothing response }
+    ensures not_silent_produces_are_answered { ¬ SendsNothing silent_produces_are_answered }
 {}

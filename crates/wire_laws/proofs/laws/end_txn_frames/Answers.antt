@@ -26,6 +26,10 @@ pub returns-clause-answered : goal.returns-clause-answered
 unfolding int_written many_written varint_written after_count_written number_of is_flexible reply_body
 returns-clause-answered c = search rules
 
+pub returns-clause-not_headers_have_no_tags : goal.returns-clause-not_headers_have_no_tags
+unfolding int_written many_written varint_written after_count_written number_of is_flexible reply_body
+returns-clause-not_headers_have_no_tags c = search rules
+
 pub returns-clause-not_told_producer_and_epoch_exchanged : goal.returns-clause-not_told_producer_and_epoch_exchanged
 unfolding int_written many_written varint_written after_count_written number_of is_flexible reply_body
 returns-clause-not_told_producer_and_epoch_exchanged c = search rules

@@ -1,0 +1,23 @@
+use Rattle.std.proofs.Common.{rules}
+use Rattle.std.specs.Str.{is_utf8, chars}
+use lib.Utf8.{encode}
+use Rattle.wire_types.specs.Reading.{nat_at, int_at, bool_at, front_at, utf8_at, many_at, items_at, after_count_at, null_or, after_null_count_at, null_or_count, null_count_at, not_null, required_at}
+use Rattle.wire_types.specs.CodedLaws.{coded_at, named_or}
+use Rattle.msg_data.specs.Isolation.{isolation_of}
+use Rattle.msg_admin.specs.Api.{is_flexible, api_at}
+use Rattle.msg_admin.specs.ApiKey.{all_keys, key_at}
+use Rattle.msg_admin.specs.Bodies.{request_body}
+use Rattle.msg_admin.specs.Request.{request_at}
+use Rattle.wire_laws.proofs.laws.malformed_frames_are_refused.Goals as goal
+
+pub returns-clause-refused : goal.returns-clause-refused
+unfolding is_utf8 chars encode nat_at int_at bool_at front_at utf8_at many_at items_at after_count_at null_or after_null_count_at null_or_count null_count_at not_null required_at coded_at named_or isolation_of is_flexible api_at all_keys key_at request_body request_at
+returns-clause-refused c = search rules
+
+pub returns-clause-not_a_byte_after_is_let_go : goal.returns-clause-not_a_byte_after_is_let_go
+unfolding is_utf8 chars encode nat_at int_at bool_at front_at utf8_at many_at items_at after_count_at null_or after_null_count_at null_or_count null_count_at not_null required_at coded_at named_or isolation_of is_flexible api_at all_keys key_at request_body request_at
+returns-clause-not_a_byte_after_is_let_go c = search rules
+
+pub returns-clause-not_range_is_short : goal.returns-clause-not_range_is_short
+unfolding is_utf8 chars encode nat_at int_at bool_at front_at utf8_at many_at items_at after_count_at null_or after_null_count_at null_or_count null_count_at not_null required_at coded_at named_or isolation_of is_flexible api_at all_keys key_at request_body request_at
+returns-clause-not_range_is_short c = search rules
