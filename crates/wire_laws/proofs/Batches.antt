@@ -1,5 +1,5 @@
 -- The attributes of a batch: each test tells its bit, and no other test does.
-use Rattle.std.proofs.Common.{◌≡◌, ◌<◌, ◌+◌, ◌*◌, ◌/◌, ◌%◌, ◌==◌, ℕ, zero, suc, pos, Bool, true, false, refl, sym, ap, ◌∙◌, arith, lit<}
+use Rattle.std.proofs.Common.{◌≡◌, ◌<◌, ◌*◌, ◌/◌, ◌%◌, ◌==◌, ℕ, zero, suc, pos, Bool, true, false, refl, ap, ◌∙◌, arith, lit<}
 use Rattle.std.specs.Int.{w16, cast_unsigned}
 use Rattle.record_batch.specs.declared.header.BatchHeader.{BatchHeader}
 use Rattle.record_batch.specs.declared.transaction_result.TransactionResult.TheVariants.{Abort, Commit}

@@ -1,7 +1,7 @@
 -- Which bytes a producer's batch may be, by the error code that each is answered, what its
 -- attributes say, and its sum (Kafka documentation, "Record Batch"; Kafka protocol guide, "Error
 -- Codes").
-use Rattle.std.specs.Prelude.{◌≡◌, ◌<◌, ◌+◌, ◌*◌, ℕ, zero, suc, ℤ, pos, List, [], ◌∷◌, ◌++◌, length, take, drop, bit_xor, Bool, true, false, ◌==◌, Option, Some, None, codes as text}
+use Rattle.std.specs.Prelude.{◌≡◌, ◌<◌, ◌+◌, ◌*◌, ℕ, zero, suc, ℤ, pos, List, [], ◌∷◌, ◌++◌, take, drop, bit_xor, Bool, true, false, ◌==◌, Option, Some, None, codes as text}
 use Rattle.std.specs.Int.{w16, cast_unsigned}
 use Rattle.wire_types.specs.ErrorCode.{number_of}
 use Rattle.record_batch.specs.declared.fault.BatchFault.{BatchFault}

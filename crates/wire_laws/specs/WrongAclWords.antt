@@ -1,6 +1,6 @@
 -- Wrong readings of the words of a binding and of a filter: each is the right one, but that two
 -- words are taken for each other.
-use Rattle.std.specs.Prelude.{List, Option, Some, None}
+use Rattle.std.specs.Prelude.{Option, Some, None}
 use Rattle.std.specs.Option.{option_map}
 use Rattle.acl_binding.specs.declared.words.Operation.{Operation}
 use Rattle.acl_binding.specs.declared.words.Operation.TheVariants as operation

@@ -1,5 +1,5 @@
 -- Wrong rules for batches: each is the right one, but for one mistake.
-use Rattle.std.specs.Prelude.{ℕ, zero, suc, ℤ, pos, ◌-◌, ◌*◌, ◌/◌, ◌%◌, ◌^◌, List, [], ◌∷◌, ◌++◌, length, take, drop, bit_xor, Bool, not, map, ◌==◌, Option, Some, None, if◌then◌else◌}
+use Rattle.std.specs.Prelude.{ℕ, zero, suc, ℤ, pos, ◌-◌, ◌*◌, ◌/◌, ◌%◌, ◌^◌, List, [], ◌∷◌, ◌++◌, length, take, drop, bit_xor, Bool, not, map, ◌==◌, None, if◌then◌else◌}
 use Rattle.std.specs.Ordering.{int_eq}
 use Rattle.wire_types.specs.Schema.{uint32}
 use Rattle.record_batch.specs.declared.header.BatchHeader.{BatchHeader}
