@@ -1,6 +1,6 @@
 -- The tables of numbers: no other rule has them.
-use Rattle.std.proofs.Common.{◌≡◌, ◌≢◌, ◌==◌, arith, ℕ, zero, suc, ℤ, pos, negsuc, [], ◌∷◌, Bool, true, false, None, refl, ap}
-use Rattle.std.specs.Prelude.{Ok, Err}
+use Rattle.std.proofs.Common.{◌≡◌, ◌≢◌, ◌==◌, arith, ℕ, zero, suc, ℤ, pos, negsuc, List, [], ◌∷◌, Bool, true, false, Option, Some, None, refl, sym, ap, ◌∙◌}
+use Rattle.std.specs.Prelude.{Result, Ok, Err}
 use Rattle.std.proofs.lemmas.Bool.Decides.{Decides-int_eq}
 use Rattle.std.proofs.lemmas.Slice.Eq.{bytes_eq-Decides}
 use Rattle.std.specs.Ordering.{int_eq}
@@ -8,7 +8,6 @@ use Rattle.std.specs.Str.{bytes_eq}
 use Rattle.wire_types.specs.declared.error_code.ErrorCode.TheVariants as errors
 use Rattle.wire_types.specs.ErrorCode.{number_of, all_codes, code_of}
 use Rattle.wire_types.specs.Reading.{Found, bool_at}
-use Rattle.wire_types.specs.Schema.{boolean}
 use Rattle.wire_types.specs.Spelling.{bool_written}
 use Rattle.msg_data.specs.declared.isolation.Isolation.TheVariants as levels
 use Rattle.msg_data.specs.Isolation.{level_of, isolation_of}
@@ -22,7 +21,7 @@ use Rattle.acl_binding.specs.declared.filter.FilterPattern.TheVariants as wanted
 use Rattle.acl_binding.specs.WireNumbers.{kind_code, pattern_code, filter_pattern_code, operation_code, permission_code, kind_at, pattern_at, filter_pattern_at, operation_at, permission_at, all_filter_patterns}
 use Rattle.acl_binding.specs.Names.{kind_name, pattern_name, operation_name, permission_name, kind_named, pattern_named, operation_named, permission_named, all_kinds, all_patterns, all_operations, all_permissions}
 use Rattle.wire_laws.specs.Tables.{IsTheOnly}
-use Rattle.wire_laws.specs.Numbers.{error_codes, NumbersErrors, ReadsErrors, isolation_levels, NumbersLevels, ReadsLevels, WritesBooleans, ReadsBooleans, ServesApis, api_keys, ReadsApis}
+use Rattle.wire_laws.specs.Numbers.{error_codes, NumbersErrors, ReadsErrors, isolation_levels, NumbersLevels, ReadsLevels, boolean_written, boolean_at, WritesBooleans, ReadsBooleans, ServesApis, api_keys, ReadsApis}
 use Rattle.wire_laws.specs.AclNumbers.{resource_types, NumbersKinds, ReadsKinds, pattern_types, NumbersPatterns, ReadsPatterns, filter_pattern_types, NumbersFilterPatterns, ReadsFilterPatterns, operations, NumbersOperations, ReadsOperations, permission_types, NumbersPermissions, ReadsPermissions, resource_names, NamesKinds, ReadsNamesOfKinds, pattern_names, NamesPatterns, ReadsNamesOfPatterns, operation_names, NamesOperations, ReadsNamesOfOperations, permission_names, NamesPermissions, ReadsNamesOfPermissions}
 use Rattle.wire_laws.specs.WrongNumbers.{booleans_read_inverted, booleans_above_1_refused}
 use Rattle.wire_laws.proofs.Tables.{one_reader, misses}
@@ -98,11 +97,11 @@ levels-read = record { words = (refl, (refl, tt)); nothing = levels-aside }
 pub levels-read-only : IsTheOnly ReadsLevels isolation_of
 levels-read-only = one_reader int_eq Decides-int_eq isolation_levels isolation_of levels-read
 
-pub booleans-told : WritesBooleans boolean.written
+pub booleans-told : WritesBooleans boolean_written
 unfolding bool_written
 booleans-told = record { no = refl; yes = refl }
 
-pub booleans-told-only : IsTheOnly WritesBooleans boolean.written
+pub booleans-told-only : IsTheOnly WritesBooleans boolean_written
 unfolding bool_written
 booleans-told-only rule law false = law.no
 booleans-told-only rule law true = law.yes
@@ -110,7 +109,7 @@ booleans-told-only rule law true = law.yes
 is_positive : (n : ℕ) → (suc n == 0) ≡ false
 is_positive n = grind arith
 
-pub booleans-read : ReadsBooleans boolean.reading
+pub booleans-read : ReadsBooleans boolean_at
 unfolding bool_at
 booleans-read = record { no = λ rest. refl; yes = λ n rest. rw (is_positive n) refl; missing = refl }
 
@@ -126,7 +125,7 @@ booleans-read-not-inverted law = let clash : true ≡ false = ap read_as (law.no
 pub booleans-read-not-refused : ¬ ReadsBooleans booleans_above_1_refused
 booleans-read-not-refused law = let clash : false ≡ true = ap read_as (law.yes 1 []) in cc
 
-pub booleans-read-only : IsTheOnly ReadsBooleans boolean.reading
+pub booleans-read-only : IsTheOnly ReadsBooleans boolean_at
 unfolding bool_at
 booleans-read-only rule law [] = law.missing
 booleans-read-only rule law (zero ∷ rest) = law.no rest

@@ -41,7 +41,7 @@ describe_acls_request_for_any =
     ∷ 0x01  -- permission_type
     ∷ []
 
--- what the frames are read as
+-- what the frames of a DescribeAcls are read as
 pub record DescribeAclsRequestFrames (decode : Decoder) : Type 0 where
   pub full : decode describe_acls_request ≡ Ok (
     record {
@@ -117,7 +117,7 @@ describe_acls_refusal =
     ∷ 0x00 ∷ 0x00 ∷ 0x00 ∷ 0x00  -- [resources]
     ∷ []
 
--- what the replies are sent as
+-- what the answers to a DescribeAcls are sent as
 pub record DescribeAclsResponseFrames (encode : Encoder) : Type 0 where
   pub bindings : encode (pos 0x01020309)
       (replies.DescribeAcls (record {
@@ -182,7 +182,7 @@ create_acls_request =
     ∷ 0x02  -- permission_type
     ∷ []
 
--- what the frame is read as
+-- what the frame of a CreateAcls is read as
 abbrev pub CreateAclsRequestFrame : Decoder → Type 0
 CreateAclsRequestFrame decode =
     decode create_acls_request ≡ Ok (
@@ -230,7 +230,7 @@ create_acls_response =
     ∷ 0x00 ∷ 0x02 ∷ 0x6e ∷ 0x6f  -- error_message
     ∷ []
 
--- what the reply is sent as
+-- what the answer to a CreateAcls is sent as
 abbrev pub CreateAclsResponseFrame : Encoder → Type 0
 CreateAclsResponseFrame encode =
     encode (pos 0x01020308)
@@ -268,7 +268,7 @@ delete_acls_request =
     ∷ 0x01  -- permission_type
     ∷ []
 
--- what the frame is read as
+-- what the frame of a DeleteAcls is read as
 abbrev pub DeleteAclsRequestFrame : Decoder → Type 0
 DeleteAclsRequestFrame decode =
     decode delete_acls_request ≡ Ok (
@@ -327,7 +327,7 @@ delete_acls_response =
     ∷ 0x00 ∷ 0x00 ∷ 0x00 ∷ 0x00  -- [matching_acls]
     ∷ []
 
--- what the reply is sent as
+-- what the answer to a DeleteAcls is sent as
 abbrev pub DeleteAclsResponseFrame : Encoder → Type 0
 DeleteAclsResponseFrame encode =
     encode (pos 0x0102030a)

@@ -175,6 +175,52 @@ create_no_binding =
     ∷ 0x04  -- permission_type
     ∷ []
 
+-- a CreateAcls of bindings that may not be: without a name, of a cluster of another name, of a
+-- principal that is no user or has no name, and without a host
+abbrev pub create_what_may_not_be : List ℕ
+create_what_may_not_be =
+    0x00 ∷ 0x1e  -- request_api_key
+    ∷ 0x00 ∷ 0x01  -- request_api_version
+    ∷ 0x00 ∷ 0x00 ∷ 0x00 ∷ 0x06  -- correlation_id
+    ∷ 0xff ∷ 0xff  -- client_id
+    ∷ 0x00 ∷ 0x00 ∷ 0x00 ∷ 0x05  -- [creations]
+    ∷ 0x02  -- resource_type
+    ∷ 0x00 ∷ 0x00  -- resource_name
+    ∷ 0x03  -- resource_pattern_type
+    ∷ 0x00 ∷ 0x06 ∷ 0x55 ∷ 0x73 ∷ 0x65 ∷ 0x72 ∷ 0x3a ∷ 0x61  -- principal
+    ∷ 0x00 ∷ 0x01 ∷ 0x2a  -- host
+    ∷ 0x03  -- operation
+    ∷ 0x03  -- permission_type
+    ∷ 0x04  -- resource_type
+    ∷ 0x00 ∷ 0x01 ∷ 0x74  -- resource_name
+    ∷ 0x03  -- resource_pattern_type
+    ∷ 0x00 ∷ 0x06 ∷ 0x55 ∷ 0x73 ∷ 0x65 ∷ 0x72 ∷ 0x3a ∷ 0x61  -- principal
+    ∷ 0x00 ∷ 0x01 ∷ 0x2a  -- host
+    ∷ 0x03  -- operation
+    ∷ 0x03  -- permission_type
+    ∷ 0x02  -- resource_type
+    ∷ 0x00 ∷ 0x01 ∷ 0x74  -- resource_name
+    ∷ 0x03  -- resource_pattern_type
+    ∷ 0x00 ∷ 0x07 ∷ 0x47 ∷ 0x72 ∷ 0x6f ∷ 0x75 ∷ 0x70 ∷ 0x3a ∷ 0x61  -- principal
+    ∷ 0x00 ∷ 0x01 ∷ 0x2a  -- host
+    ∷ 0x03  -- operation
+    ∷ 0x03  -- permission_type
+    ∷ 0x02  -- resource_type
+    ∷ 0x00 ∷ 0x01 ∷ 0x74  -- resource_name
+    ∷ 0x03  -- resource_pattern_type
+    ∷ 0x00 ∷ 0x05 ∷ 0x55 ∷ 0x73 ∷ 0x65 ∷ 0x72 ∷ 0x3a  -- principal
+    ∷ 0x00 ∷ 0x01 ∷ 0x2a  -- host
+    ∷ 0x03  -- operation
+    ∷ 0x03  -- permission_type
+    ∷ 0x02  -- resource_type
+    ∷ 0x00 ∷ 0x01 ∷ 0x74  -- resource_name
+    ∷ 0x03  -- resource_pattern_type
+    ∷ 0x00 ∷ 0x06 ∷ 0x55 ∷ 0x73 ∷ 0x65 ∷ 0x72 ∷ 0x3a ∷ 0x61  -- principal
+    ∷ 0x00 ∷ 0x00  -- host
+    ∷ 0x03  -- operation
+    ∷ 0x03  -- permission_type
+    ∷ []
+
 -- a DeleteAcls with a filter for any operation and for each, and each of the other words
 abbrev pub delete_each_operation : List ℕ
 delete_each_operation =
@@ -354,17 +400,19 @@ BindingsRule = List ℕ → List (Option Binding)
 abbrev pub FiltersRule : Type 0
 FiltersRule = List ℕ → List (Option Filter)
 
+-- the bindings that a request asks for
 abbrev bindings_in : Request → List (Option Binding)
 bindings_in (requests.CreateAcls r) = map binding_of r.creations
 bindings_in r = []
 
+-- the filters that a request asks for
 abbrev filters_in : Request → List (Option Filter)
 filters_in (requests.DeleteAcls r) = map filter_of r.filters
 filters_in (requests.DescribeAcls r) = filter_of r.filter ∷ []
 filters_in r = []
 
 -- what is read of a frame, if it is a request
-abbrev asked_by : {A : Type 0} → (Request → List A) → Result (Header × Request) Malformed → List A
+abbrev pub asked_by : {A : Type 0} → (Request → List A) → Result (Header × Request) Malformed → List A
 asked_by f (Ok x) = f x.1
 asked_by f (Err fault) = []
 
@@ -479,7 +527,9 @@ pub record AsksForBindings (rule : BindingsRule) : Type 0 where
         permission = permissions.Deny;
       })
       ∷ [])
-  pub nothing : rule create_no_binding ≡ None ∷ None ∷ None ∷ None ∷ None ∷ None ∷ None ∷ None ∷ []
+  pub nothing : rule create_no_binding
+      ≡ None ∷ None ∷ None ∷ None ∷ None ∷ None ∷ None ∷ None ∷ []
+  pub refused : rule create_what_may_not_be ≡ None ∷ None ∷ None ∷ None ∷ None ∷ []
 
 -- a client's filters are read in these words
 pub record AsksForFilters (rule : FiltersRule) : Type 0 where

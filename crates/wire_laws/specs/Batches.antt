@@ -5,7 +5,7 @@
 use Rattle.std.specs.Prelude.{◌≡◌, ℕ, ℤ, pos, List, [], ◌∷◌, Some, None, codes as text}
 use Rattle.record_batch.specs.declared.transaction_result.TransactionResult.{TransactionResult}
 use Rattle.record_batch.specs.declared.transaction_result.TransactionResult.TheVariants.{Abort, Commit}
-use Rattle.record_batch.specs.Batch.{BatchData}
+use Rattle.record_batch.specs.Batch.{BatchData, batch_of_bytes}
 use Rattle.record_batch.specs.Control.{control}
 use Rattle.wire_laws.specs.Tables.{HasNumbers}
 
@@ -202,10 +202,14 @@ abort_marker =
 
 -- ---- what they are
 
+-- the batch of data in these bytes
+abbrev pub batch_in : List ℕ → BatchData
+batch_in bytes = batch_of_bytes None bytes
+
 -- a batch is read field by field, and each of its records
 abbrev pub ReadsBatches : (List ℕ → BatchData) → Type 0
-ReadsBatches batch_in =
-    batch_in producer_batch
+ReadsBatches read =
+    read producer_batch
     ≡ record {
       header
           = record {
@@ -252,6 +256,7 @@ marker_bytes outcome producer epoch moment = (control outcome producer epoch mom
 
 -- ---- the types of control records ("Control Batches")
 
+-- ABORT is 0, and COMMIT is 1
 abbrev pub control_types : List (ℕ × TransactionResult)
 control_types = (0, Abort) ∷ (1, Commit) ∷ []
 

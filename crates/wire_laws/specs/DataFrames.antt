@@ -45,7 +45,7 @@ plain_produce_request =
     ∷ 0x00 ∷ 0x00 ∷ 0x00 ∷ 0x00  -- [topic_data]
     ∷ []
 
--- what the frames are read as
+-- what the frames of a Produce are read as
 pub record ProduceRequestFrames (decode : Decoder) : Type 0 where
   pub transactional : decode produce_request ≡ Ok (
     record {
@@ -101,7 +101,7 @@ produce_response =
     ∷ 0x00 ∷ 0x00 ∷ 0x00 ∷ 0x05  -- throttle_time_ms
     ∷ []
 
--- what the reply is sent as
+-- what the answer to a Produce is sent as
 abbrev pub ProduceResponseFrame : Encoder → Type 0
 ProduceResponseFrame encode =
     encode (pos 0x01020304)
@@ -170,7 +170,7 @@ uncommitted_fetch_request =
     ∷ 0x00 ∷ 0x00 ∷ 0x00 ∷ 0x00  -- [topics]
     ∷ []
 
--- what the frames are read as
+-- what the frames of a Fetch are read as
 pub record FetchRequestFrames (decode : Decoder) : Type 0 where
   pub committed : decode committed_fetch_request ≡ Ok (
     record {
@@ -244,7 +244,7 @@ fetch_response =
     ∷ 0x00 ∷ 0x00 ∷ 0x00 ∷ 0x00  -- records
     ∷ []
 
--- what the reply is sent as
+-- what the answer to a Fetch is sent as
 abbrev pub FetchResponseFrame : Encoder → Type 0
 FetchResponseFrame encode =
     encode (pos 0x01020305)
@@ -318,7 +318,7 @@ uncommitted_list_offsets_request =
     ∷ 0x00 ∷ 0x00 ∷ 0x01 ∷ 0x8b ∷ 0xcf ∷ 0xe5 ∷ 0x68 ∷ 0x00  -- timestamp
     ∷ []
 
--- what the frames are read as
+-- what the frames of a ListOffsets are read as
 pub record ListOffsetsRequestFrames (decode : Decoder) : Type 0 where
   pub committed : decode committed_list_offsets_request ≡ Ok (
     record {
@@ -373,7 +373,7 @@ list_offsets_response =
     ∷ 0xff ∷ 0xff ∷ 0xff ∷ 0xff ∷ 0xff ∷ 0xff ∷ 0xff ∷ 0xff  -- offset
     ∷ []
 
--- what the reply is sent as
+-- what the answer to a ListOffsets is sent as
 abbrev pub ListOffsetsResponseFrame : Encoder → Type 0
 ListOffsetsResponseFrame encode =
     encode (pos 0x01020306)
@@ -433,7 +433,7 @@ metadata_request_for_none =
     ∷ 0x00 ∷ 0x00 ∷ 0x00 ∷ 0x00  -- [topics]
     ∷ []
 
--- what the frames are read as
+-- what the frames of a Metadata are read as
 pub record MetadataRequestFrames (decode : Decoder) : Type 0 where
   pub two : decode metadata_request ≡ Ok (
     record {
@@ -500,7 +500,7 @@ metadata_response =
     ∷ 0x00 ∷ 0x00 ∷ 0x00 ∷ 0x00  -- [partitions]
     ∷ []
 
--- what the reply is sent as
+-- what the answer to a Metadata is sent as
 abbrev pub MetadataResponseFrame : Encoder → Type 0
 MetadataResponseFrame encode =
     encode (pos 0x01020307)

@@ -35,7 +35,7 @@ offset_commit_request =
     ∷ 0x00 ∷ 0x00  -- committed_metadata
     ∷ []
 
--- what the frame is read as
+-- what the frame of an OffsetCommit is read as
 abbrev pub OffsetCommitRequestFrame : Decoder → Type 0
 OffsetCommitRequestFrame decode =
     decode offset_commit_request ≡ Ok (
@@ -77,7 +77,7 @@ offset_commit_response =
     ∷ 0x00 ∷ 0x16  -- error_code
     ∷ []
 
--- what the reply is sent as
+-- what the answer to an OffsetCommit is sent as
 abbrev pub OffsetCommitResponseFrame : Encoder → Type 0
 OffsetCommitResponseFrame encode =
     encode (pos 0x01020320)
@@ -141,7 +141,7 @@ offset_fetch_request_for_none =
     ∷ 0x00  -- TAG_BUFFER
     ∷ []
 
--- what the frames are read as
+-- what the frames of an OffsetFetch are read as
 pub record OffsetFetchRequestFrames (decode : Decoder) : Type 0 where
   pub stable : decode stable_offset_fetch_request ≡ Ok (
     record {
@@ -200,7 +200,7 @@ offset_fetch_response =
     ∷ 0x00  -- TAG_BUFFER
     ∷ []
 
--- what the reply is sent as
+-- what the answer to an OffsetFetch is sent as
 abbrev pub OffsetFetchResponseFrame : Encoder → Type 0
 OffsetFetchResponseFrame encode =
     encode (pos 0x01020321)
@@ -257,7 +257,7 @@ join_group_request =
     ∷ 0x00 ∷ 0x00 ∷ 0x00 ∷ 0x00  -- metadata
     ∷ []
 
--- what the frame is read as
+-- what the frame of a JoinGroup is read as
 abbrev pub JoinGroupRequestFrame : Decoder → Type 0
 JoinGroupRequestFrame decode =
     decode join_group_request ≡ Ok (
@@ -299,7 +299,7 @@ join_group_response =
     ∷ 0x00 ∷ 0x00 ∷ 0x00 ∷ 0x00  -- metadata
     ∷ []
 
--- what the reply is sent as
+-- what the answer to a JoinGroup is sent as
 abbrev pub JoinGroupResponseFrame : Encoder → Type 0
 JoinGroupResponseFrame encode =
     encode (pos 0x01020322)
@@ -330,7 +330,7 @@ heartbeat_request =
     ∷ 0x00 ∷ 0x03 ∷ 0x6d ∷ 0x2d ∷ 0x31  -- member_id
     ∷ []
 
--- what the frame is read as
+-- what the frame of a Heartbeat is read as
 abbrev pub HeartbeatRequestFrame : Decoder → Type 0
 HeartbeatRequestFrame decode =
     decode heartbeat_request ≡ Ok (
@@ -354,7 +354,7 @@ heartbeat_response =
     ∷ 0x00 ∷ 0x1b  -- error_code
     ∷ []
 
--- what the reply is sent as
+-- what the answer to a Heartbeat is sent as
 abbrev pub HeartbeatResponseFrame : Encoder → Type 0
 HeartbeatResponseFrame encode =
     encode (pos 0x01020323)
@@ -374,7 +374,7 @@ leave_group_request =
     ∷ 0x00 ∷ 0x03 ∷ 0x6d ∷ 0x2d ∷ 0x31  -- member_id
     ∷ []
 
--- what the frame is read as
+-- what the frame of a LeaveGroup is read as
 abbrev pub LeaveGroupRequestFrame : Decoder → Type 0
 LeaveGroupRequestFrame decode =
     decode leave_group_request ≡ Ok (
@@ -398,7 +398,7 @@ leave_group_response =
     ∷ 0x00 ∷ 0x19  -- error_code
     ∷ []
 
--- what the reply is sent as
+-- what the answer to a LeaveGroup is sent as
 abbrev pub LeaveGroupResponseFrame : Encoder → Type 0
 LeaveGroupResponseFrame encode =
     encode (pos 0x01020324)
@@ -424,7 +424,7 @@ sync_group_request =
     ∷ 0x00 ∷ 0x00 ∷ 0x00 ∷ 0x00  -- assignment
     ∷ []
 
--- what the frame is read as
+-- what the frame of a SyncGroup is read as
 abbrev pub SyncGroupRequestFrame : Decoder → Type 0
 SyncGroupRequestFrame decode =
     decode sync_group_request ≡ Ok (
@@ -456,7 +456,7 @@ sync_group_response =
     ∷ 0x00 ∷ 0x00 ∷ 0x00 ∷ 0x02 ∷ 0xca ∷ 0xfe  -- assignment
     ∷ []
 
--- what the reply is sent as
+-- what the answer to a SyncGroup is sent as
 abbrev pub SyncGroupResponseFrame : Encoder → Type 0
 SyncGroupResponseFrame encode =
     encode (pos 0x01020325)

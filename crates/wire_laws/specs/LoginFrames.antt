@@ -19,7 +19,7 @@ sasl_handshake_request =
     ∷ 0x00 ∷ 0x05 ∷ 0x50 ∷ 0x4c ∷ 0x41 ∷ 0x49 ∷ 0x4e  -- mechanism
     ∷ []
 
--- what the frame is read as
+-- what the frame of a SaslHandshake is read as
 abbrev pub SaslHandshakeRequestFrame : Decoder → Type 0
 SaslHandshakeRequestFrame decode =
     decode sasl_handshake_request ≡ Ok (
@@ -45,7 +45,7 @@ sasl_handshake_response =
     ∷ 0x00 ∷ 0x01 ∷ 0x50  -- mechanisms
     ∷ []
 
--- what the reply is sent as
+-- what the answer to a SaslHandshake is sent as
 abbrev pub SaslHandshakeResponseFrame : Encoder → Type 0
 SaslHandshakeResponseFrame encode =
     encode (pos 0x01020330)
@@ -66,7 +66,7 @@ api_versions_request =
     ∷ 0x00 ∷ 0x01 ∷ 0x63  -- client_id
     ∷ []
 
--- what the frame is read as
+-- what the frame of an ApiVersions is read as
 abbrev pub ApiVersionsRequestFrame : Decoder → Type 0
 ApiVersionsRequestFrame decode =
     decode api_versions_request ≡ Ok (
@@ -96,7 +96,7 @@ api_versions_response =
     ∷ 0x00 ∷ 0x07  -- max_version
     ∷ []
 
--- what the reply is sent as
+-- what the answer to an ApiVersions is sent as
 abbrev pub ApiVersionsResponseFrame : Encoder → Type 0
 ApiVersionsResponseFrame encode =
     encode (pos 0x01020332)
@@ -121,7 +121,7 @@ sasl_authenticate_request =
     ∷ 0x77
     ∷ []
 
--- what the frame is read as
+-- what the frame of a SaslAuthenticate is read as
 abbrev pub SaslAuthenticateRequestFrame : Decoder → Type 0
 SaslAuthenticateRequestFrame decode =
     decode sasl_authenticate_request ≡ Ok (
@@ -158,7 +158,7 @@ told_sasl_authenticate_response =
     ∷ 0x00 ∷ 0x00 ∷ 0x00 ∷ 0x00  -- auth_bytes
     ∷ []
 
--- what the replies are sent as
+-- what the answers to a SaslAuthenticate are sent as
 pub record SaslAuthenticateResponseFrames (encode : Encoder) : Type 0 where
   pub refusal : encode (pos 0x01020331)
       (replies.SaslAuthenticate (record {

@@ -5,6 +5,7 @@ use Rattle.wire_types.specs.declared.error_code.ErrorCode.{ErrorCode}
 use Rattle.wire_types.specs.declared.error_code.ErrorCode.TheVariants as errors
 use Rattle.wire_types.specs.declared.fault.Malformed.TheVariants.{Short}
 use Rattle.wire_types.specs.Reading.{Found}
+use Rattle.wire_types.specs.Schema.{boolean}
 use Rattle.msg_data.specs.declared.isolation.Isolation.{Isolation}
 use Rattle.msg_data.specs.declared.isolation.Isolation.TheVariants as levels
 use Rattle.msg_admin.specs.declared.api_key.ApiKey.{ApiKey}
@@ -59,6 +60,14 @@ abbrev pub ReadsLevels : (ℤ → Option Isolation) → Type 0
 ReadsLevels = ReadsNumbers isolation_levels
 
 -- ---- BOOLEAN ("Protocol Primitive Types")
+
+-- how a BOOLEAN is written
+abbrev pub boolean_written : Bool → List ℕ
+boolean_written b = boolean.written b
+
+-- the BOOLEAN that stands at the front of bytes
+abbrev pub boolean_at : List ℕ → Found Bool
+boolean_at bytes = boolean.reading bytes
 
 -- false is written as 0, and true as 1
 pub record WritesBooleans (write : Bool → List ℕ) : Type 0 where

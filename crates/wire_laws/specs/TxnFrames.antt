@@ -36,7 +36,7 @@ transaction_coordinator_request =
     ∷ 0x01  -- key_type
     ∷ []
 
--- what the frames are read as
+-- what the frames of a FindCoordinator are read as
 pub record FindCoordinatorRequestFrames (decode : Decoder) : Type 0 where
   pub group : decode group_coordinator_request ≡ Ok (
     record {
@@ -80,7 +80,7 @@ find_coordinator_refusal =
     ∷ 0xff ∷ 0xff ∷ 0xff ∷ 0xff  -- port
     ∷ []
 
--- what the replies are sent as
+-- what the answers to a FindCoordinator are sent as
 pub record FindCoordinatorResponseFrames (encode : Encoder) : Type 0 where
   pub found : encode (pos 0x0102030b)
       (replies.FindCoordinator (record {
@@ -127,7 +127,7 @@ plain_init_producer_id_request =
     ∷ 0x7f ∷ 0xff ∷ 0xff ∷ 0xff  -- transaction_timeout_ms
     ∷ []
 
--- what the frames are read as
+-- what the frames of an InitProducerId are read as
 pub record InitProducerIdRequestFrames (decode : Decoder) : Type 0 where
   pub transactional : decode init_producer_id_request ≡ Ok (
     record {
@@ -159,7 +159,7 @@ init_producer_id_response =
     ∷ 0x00 ∷ 0x09  -- producer_epoch
     ∷ []
 
--- what the reply is sent as
+-- what the answer to an InitProducerId is sent as
 abbrev pub InitProducerIdResponseFrame : Encoder → Type 0
 InitProducerIdResponseFrame encode =
     encode (pos 0x0102030c)
@@ -192,7 +192,7 @@ add_partitions_to_txn_request =
     ∷ 0x00 ∷ 0x00 ∷ 0x00 ∷ 0x00  -- [partitions]
     ∷ []
 
--- what the frame is read as
+-- what the frame of an AddPartitionsToTxn is read as
 abbrev pub AddPartitionsToTxnRequestFrame : Decoder → Type 0
 AddPartitionsToTxnRequestFrame decode =
     decode add_partitions_to_txn_request ≡ Ok (
@@ -231,7 +231,7 @@ add_partitions_to_txn_response =
     ∷ 0x00 ∷ 0x00 ∷ 0x00 ∷ 0x00  -- [partitions]
     ∷ []
 
--- what the reply is sent as
+-- what the answer to an AddPartitionsToTxn is sent as
 abbrev pub AddPartitionsToTxnResponseFrame : Encoder → Type 0
 AddPartitionsToTxnResponseFrame encode =
     encode (pos 0x0102030d)
@@ -263,7 +263,7 @@ add_offsets_to_txn_request =
     ∷ 0x00 ∷ 0x03 ∷ 0x61 ∷ 0x70 ∷ 0x70  -- group_id
     ∷ []
 
--- what the frame is read as
+-- what the frame of an AddOffsetsToTxn is read as
 abbrev pub AddOffsetsToTxnRequestFrame : Decoder → Type 0
 AddOffsetsToTxnRequestFrame decode =
     decode add_offsets_to_txn_request ≡ Ok (
@@ -292,7 +292,7 @@ add_offsets_to_txn_response =
     ∷ 0x00 ∷ 0x31  -- error_code
     ∷ []
 
--- what the reply is sent as
+-- what the answer to an AddOffsetsToTxn is sent as
 abbrev pub AddOffsetsToTxnResponseFrame : Encoder → Type 0
 AddOffsetsToTxnResponseFrame encode =
     encode (pos 0x0102030e)
@@ -469,7 +469,7 @@ end_txn_5_abort =
     ∷ 0x00  -- TAG_BUFFER
     ∷ []
 
--- what the frames are read as
+-- what the frames of an EndTxn are read as
 pub record EndTxnRequestFrames (decode : Decoder) : Type 0 where
   pub version_0_commit : decode end_txn_0_commit ≡ Ok (
     record {
@@ -716,7 +716,7 @@ end_txn_5_response =
     ∷ 0x00  -- TAG_BUFFER
     ∷ []
 
--- what the replies are sent as
+-- what the answers to an EndTxn are sent as
 pub record EndTxnResponseFrames (encode : Encoder) : Type 0 where
   pub version_0 : encode (pos 0x01020310)
       (replies.EndTxn (ended.Version0 (record { throttle = pos 5; error = errors.ProducerFenced })))
@@ -800,7 +800,7 @@ txn_offset_commit_request_of_an_instance =
     ∷ 0x01 ∷ 0x07 ∷ 0x02 ∷ 0x01 ∷ 0x02  -- TAG_BUFFER
     ∷ []
 
--- what the frames are read as
+-- what the frames of a TxnOffsetCommit are read as
 pub record TxnOffsetCommitRequestFrames (decode : Decoder) : Type 0 where
   pub offsets : decode txn_offset_commit_request ≡ Ok (
     record {
@@ -873,7 +873,7 @@ txn_offset_commit_response =
     ∷ 0x00  -- TAG_BUFFER
     ∷ []
 
--- what the reply is sent as
+-- what the answer to a TxnOffsetCommit is sent as
 abbrev pub TxnOffsetCommitResponseFrame : Encoder → Type 0
 TxnOffsetCommitResponseFrame encode =
     encode (pos 0x0102030f)

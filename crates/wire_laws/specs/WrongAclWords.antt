@@ -1,14 +1,20 @@
 -- Wrong readings of the words of a binding and of a filter: each is the right one, but that two
 -- words are taken for each other.
-use Rattle.std.specs.Prelude.{Option, Some, None}
+use Rattle.std.specs.Prelude.{List, [], map, Option, Some, None}
 use Rattle.std.specs.Option.{option_map}
+use Rattle.msg_acl.specs.declared.entries.BindingEntry.{BindingEntry}
 use Rattle.acl_binding.specs.declared.words.Operation.{Operation}
 use Rattle.acl_binding.specs.declared.words.Operation.TheVariants as operation
 use Rattle.acl_binding.specs.declared.binding.Binding.{Binding}
 use Rattle.acl_binding.specs.declared.filter.Filter.{Filter}
+use Rattle.acl_binding.specs.Entries.{binding_by}
+use Rattle.acl_binding.specs.WireNumbers.{kind_at, pattern_at, operation_at, permission_at}
+use Rattle.msg_admin.specs.declared.request.Request.{Request}
+use Rattle.msg_admin.specs.declared.request.Request.TheVariants as requests
+use Rattle.msg_admin.specs.Request.{request_at}
 use Rattle.wire_laws.specs.WrongFrames.{each}
 use Rattle.wire_laws.specs.WrongAclNumbers.{other_of_deny_and_allow, other_of_read_and_write, other_of_group_and_transactional, other_of_literal_and_prefixed, other_of_any_and_match}
-use Rattle.wire_laws.specs.AclWords.{BindingsRule, FiltersRule, bindings_asked, filters_asked}
+use Rattle.wire_laws.specs.AclWords.{BindingsRule, FiltersRule, asked_by, bindings_asked, filters_asked}
 
 -- ---- bindings
 
@@ -34,6 +40,21 @@ group_is_transactional_id =
 abbrev pub literal_is_prefixed : BindingsRule
 literal_is_prefixed =
     with_binding (λ b. record b { pattern = other_of_literal_and_prefixed b.pattern })
+
+-- the binding that an entry in known words is, whatever names they have
+abbrev any_binding : BindingEntry → Option Binding
+any_binding e =
+    binding_by e (kind_at e.kind) (pattern_at e.pattern) (operation_at e.operation)
+    (permission_at e.permission)
+
+-- the bindings that a request asks for, whatever names they have
+abbrev any_bindings : Request → List (Option Binding)
+any_bindings (requests.CreateAcls r) = map any_binding r.creations
+any_bindings r = []
+
+-- a binding without a name, a host or a user is one
+abbrev pub any_names_are_taken : BindingsRule
+any_names_are_taken bytes = asked_by any_bindings (request_at bytes)
 
 -- ---- filters
 

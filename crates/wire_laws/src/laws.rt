@@ -15,10 +15,9 @@ ghost use Rattle.wire_laws.specs.LoginFrames.{SaslHandshakeRequestFrame, SaslHan
 ghost use Rattle.wire_laws.specs.WrongLogin.{handshake_and_versions_swapped, auth_without_the_first_zero, min_and_max_exchanged, mechanism_and_state_swapped, null_reasons_are_empty};
 ghost use Rattle.wire_laws.specs.WrongFrames.{key_and_version_exchanged, null_client_is_empty, empty_client_is_null, size_counts_itself, headers_have_no_tags};
 ghost use Rattle.wire_laws.specs.Tables.{IsTheOnly};
-ghost use Rattle.wire_laws.specs.Numbers.{NumbersErrors, ReadsErrors, NumbersLevels, ReadsLevels, WritesBooleans, ReadsBooleans, ServesApis, ReadsApis};
+ghost use Rattle.wire_laws.specs.Numbers.{NumbersErrors, ReadsErrors, NumbersLevels, ReadsLevels, WritesBooleans, ReadsBooleans, boolean_written, boolean_at, ServesApis, ReadsApis};
 ghost use Rattle.wire_types.specs.ErrorCode.{number_of, code_of};
 ghost use Rattle.msg_data.specs.Isolation.{level_of, isolation_of};
-ghost use Rattle.wire_types.specs.Schema.{boolean};
 ghost use Rattle.msg_admin.specs.ApiKey.{served_api, key_at};
 ghost use Rattle.wire_laws.specs.AclNumbers.{NumbersKinds, ReadsKinds, NamesKinds, ReadsNamesOfKinds, NumbersPatterns, ReadsPatterns, NamesPatterns, ReadsNamesOfPatterns, NumbersFilterPatterns, ReadsFilterPatterns, NumbersOperations, ReadsOperations, NamesOperations, ReadsNamesOfOperations, NumbersPermissions, ReadsPermissions, NamesPermissions, ReadsNamesOfPermissions};
 ghost use Rattle.acl_binding.specs.WireNumbers.{kind_code, kind_at, pattern_code, pattern_at, filter_pattern_code, filter_pattern_at, operation_code, operation_at, permission_code, permission_at};
@@ -27,13 +26,12 @@ ghost use Rattle.acl_binding.specs.Names.{kind_name, kind_named, pattern_name, p
 ghost use Rattle.wire_laws.specs.WrongNumbers.{corrupt_and_invalid_numbers_swapped, version_and_mechanism_numbers_swapped, fenced_and_epoch_numbers_swapped, corrupt_and_invalid_read_swapped, version_and_mechanism_read_swapped, fenced_and_epoch_read_swapped, level_numbers_swapped, level_read_swapped, booleans_inverted, booleans_read_inverted, booleans_above_1_refused, heartbeat_and_leave_numbers_swapped, end_txn_flexible_from_4, heartbeat_and_leave_read_swapped};
 ghost use Rattle.wire_laws.specs.BatchRules.{AnswersBatches, code_answered, TellsUncompressed, TellsAppendTime, TellsTransactional, TellsControl, SumsKnown};
 ghost use Rattle.wire_laws.specs.WrongBatches.{sums_are_not_looked_at, corrupt_batches_are_invalid, compressed_batches_are_taken, append_times_are_taken, control_batches_are_taken, sizes_are_not_looked_at, timestamps_exchanged, epoch_and_sequence_exchanged, keys_and_values_exchanged, compression_is_0x01, append_time_is_0x10, transactional_is_0x20, control_is_0x40, outcomes_swapped, markers_with_0x50, types_swapped, crc32, not_inverted_at_the_end};
-ghost use Rattle.wire_laws.specs.Batches.{ReadsBatches, WritesMarkers, marker_bytes, NumbersOutcomes};
-ghost use Rattle.record_batch.specs.Batch.{batch_of_bytes, marker_type};
-ghost use Rattle.std.specs.Prelude.{None};
+ghost use Rattle.wire_laws.specs.Batches.{ReadsBatches, batch_in, WritesMarkers, marker_bytes, NumbersOutcomes};
+ghost use Rattle.record_batch.specs.Batch.{marker_type};
 ghost use Rattle.record_batch.specs.BatchHeader.{is_uncompressed, has_append_time, is_transactional, is_control};
 ghost use Rattle.record_batch.specs.Crc.{crc32c};
 ghost use Rattle.wire_laws.specs.AclWords.{AsksForBindings, AsksForFilters, bindings_asked, filters_asked};
-ghost use Rattle.wire_laws.specs.WrongAclWords.{deny_is_allow, read_is_write, group_is_transactional_id, literal_is_prefixed, filtered_deny_is_allow, filtered_read_is_write, any_is_match, any_is_all};
+ghost use Rattle.wire_laws.specs.WrongAclWords.{deny_is_allow, read_is_write, group_is_transactional_id, literal_is_prefixed, any_names_are_taken, filtered_deny_is_allow, filtered_read_is_write, any_is_match, any_is_all};
 ghost use Rattle.msg_admin.specs.Decode.{frame_at};
 ghost use Rattle.msg_admin.specs.Versions.{unsupported_response};
 ghost use Rattle.wire_laws.specs.Versions.{ReadsVersions, api_named, ReadsAnyVersion, TellsUnsupported, TellsVersions, versions_told};
@@ -297,11 +295,11 @@ pub fn isolation_levels_have_numbers()
 /// A BOOLEAN is sent as 0 where it is false and as 1 where it is true; a client's 0 is read as false, and any other byte as
 /// true.
 pub fn booleans_are_bytes()
-    ensures written { WritesBooleans boolean.written }
-    ensures written_only { IsTheOnly WritesBooleans boolean.written }
+    ensures written { WritesBooleans boolean_written }
+    ensures written_only { IsTheOnly WritesBooleans boolean_written }
     ensures not_booleans_inverted { ¬ WritesBooleans booleans_inverted }
-    ensures read { ReadsBooleans boolean.reading }
-    ensures read_only { IsTheOnly ReadsBooleans boolean.reading }
+    ensures read { ReadsBooleans boolean_at }
+    ensures read_only { IsTheOnly ReadsBooleans boolean_at }
     ensures not_booleans_read_inverted { ¬ ReadsBooleans booleans_read_inverted }
     ensures not_booleans_above_1_refused { ¬ ReadsBooleans booleans_above_1_refused }
 {}
@@ -412,7 +410,7 @@ pub fn batches_are_answered()
 /// A batch is read field by field as Kafka's documentation lays it out, and each record with its time, its key or null, its
 /// value and its headers.
 pub fn batches_are_read()
-    ensures read { ReadsBatches (batch_of_bytes None) }
+    ensures read { ReadsBatches batch_in }
     ensures not_timestamps_exchanged { ¬ ReadsBatches timestamps_exchanged }
     ensures not_epoch_and_sequence_exchanged { ¬ ReadsBatches epoch_and_sequence_exchanged }
     ensures not_keys_and_values_exchanged { ¬ ReadsBatches keys_and_values_exchanged }
@@ -454,13 +452,15 @@ pub fn sums_are_crc32c()
 {}
 
 /// What a client asks for by its bytes are bindings and filters in Kafka's words: 2 is a DENY and 3 an ALLOW, 3 is a READ and 4
-/// a WRITE, 1 in a filter is any. A creation or a filter with a number that is no word is none.
+/// a WRITE, 1 in a filter is any. A creation or a filter with a number that is no word is none, and so is a creation without a
+/// name, a host or a user.
 pub fn acl_words_are_read()
     ensures bindings { AsksForBindings bindings_asked }
     ensures not_deny_is_allow { ¬ AsksForBindings deny_is_allow }
     ensures not_read_is_write { ¬ AsksForBindings read_is_write }
     ensures not_group_is_transactional_id { ¬ AsksForBindings group_is_transactional_id }
     ensures not_literal_is_prefixed { ¬ AsksForBindings literal_is_prefixed }
+    ensures not_any_names_are_taken { ¬ AsksForBindings any_names_are_taken }
     ensures filters { AsksForFilters filters_asked }
     ensures not_filtered_deny_is_allow { ¬ AsksForFilters filtered_deny_is_allow }
     ensures not_filtered_read_is_write { ¬ AsksForFilters filtered_read_is_write }

@@ -28,6 +28,10 @@ pub returns-clause-not_literal_is_prefixed : goal.returns-clause-not_literal_is_
 unfolding is_utf8 chars encode nat_at int_at front_at utf8_at many_at items_at after_count_at null_or after_null_count_at null_or_count null_count_at not_null required_at is_flexible api_at all_keys key_at request_body request_at kind_code pattern_code filter_pattern_code operation_code permission_code kind_at pattern_at filter_pattern_at operation_at permission_at
 returns-clause-not_literal_is_prefixed c = search rules
 
+pub returns-clause-not_any_names_are_taken : goal.returns-clause-not_any_names_are_taken
+unfolding is_utf8 chars encode nat_at int_at front_at utf8_at many_at items_at after_count_at null_or after_null_count_at null_or_count null_count_at not_null required_at is_flexible api_at all_keys key_at request_body request_at kind_code pattern_code filter_pattern_code operation_code permission_code kind_at pattern_at filter_pattern_at operation_at permission_at
+returns-clause-not_any_names_are_taken c = search rules
+
 pub returns-clause-filters : goal.returns-clause-filters
 unfolding is_utf8 chars encode nat_at int_at front_at utf8_at many_at items_at after_count_at null_or after_null_count_at null_or_count null_count_at not_null required_at is_flexible api_at all_keys key_at request_body request_at kind_code pattern_code filter_pattern_code operation_code permission_code kind_at pattern_at filter_pattern_at operation_at permission_at
 returns-clause-filters c = search rules
