@@ -412,7 +412,8 @@ filters_in (requests.DescribeAcls r) = filter_of r.filter ∷ []
 filters_in r = []
 
 -- what is read of a frame, if it is a request
-abbrev pub asked_by : {A : Type 0} → (Request → List A) → Result (Header × Request) Malformed → List A
+abbrev pub asked_by : {A : Type 0} → (Request → List A) → Result (Header × Request) Malformed
+    → List A
 asked_by f (Ok x) = f x.1
 asked_by f (Err fault) = []
 
