@@ -16,13 +16,13 @@ describe_acls_request =
     ∷ 0x00 ∷ 0x01  -- request_api_version
     ∷ 0x01 ∷ 0x02 ∷ 0x03 ∷ 0x09  -- correlation_id
     ∷ 0x00 ∷ 0x01 ∷ 0x63  -- client_id
-    ∷ 0x02  -- resource_type_filter
-    ∷ 0x00 ∷ 0x01 ∷ 0x74  -- resource_name_filter
+    ∷ 0x05  -- resource_type_filter
+    ∷ 0x00 ∷ 0x01 ∷ 0x78  -- resource_name_filter
     ∷ 0x04  -- pattern_type_filter
     ∷ 0x00 ∷ 0x06 ∷ 0x55 ∷ 0x73 ∷ 0x65 ∷ 0x72 ∷ 0x3a ∷ 0x61  -- principal_filter
     ∷ 0x00 ∷ 0x01 ∷ 0x68  -- host_filter
-    ∷ 0x03  -- operation
-    ∷ 0x02  -- permission_type
+    ∷ 0x07  -- operation
+    ∷ 0x03  -- permission_type
     ∷ []
 
 -- anything at all: 1 for each word, and null for each text
@@ -52,13 +52,13 @@ pub record DescribeAclsRequestFrames (decode : Decoder) : Type 0 where
     },
     requests.DescribeAcls (record {
       filter = record {
-        kind = pos 2;
-        name = Some (text "t");
+        kind = pos 5;
+        name = Some (text "x");
         pattern = pos 4;
         principal = Some (text "User:a");
         host = Some (text "h");
-        operation = pos 3;
-        permission = pos 2;
+        operation = pos 7;
+        permission = pos 3;
       };
     }),
   )
@@ -217,17 +217,19 @@ CreateAclsRequestFrame decode =
 
 -- ---- CreateAcls Response, version 1
 
--- one that was created, and one that wasn't
+-- one that was created, and two that weren't
 abbrev pub create_acls_response : List ℕ
 create_acls_response =
-    0x00 ∷ 0x00 ∷ 0x00 ∷ 0x16  -- size
+    0x00 ∷ 0x00 ∷ 0x00 ∷ 0x1a  -- size
     ∷ 0x01 ∷ 0x02 ∷ 0x03 ∷ 0x08  -- correlation_id
     ∷ 0x00 ∷ 0x00 ∷ 0x00 ∷ 0x05  -- throttle_time_ms
-    ∷ 0x00 ∷ 0x00 ∷ 0x00 ∷ 0x02  -- [results]
+    ∷ 0x00 ∷ 0x00 ∷ 0x00 ∷ 0x03  -- [results]
     ∷ 0x00 ∷ 0x00  -- error_code
     ∷ 0xff ∷ 0xff  -- error_message
     ∷ 0x00 ∷ 0x2a  -- error_code
     ∷ 0x00 ∷ 0x02 ∷ 0x6e ∷ 0x6f  -- error_message
+    ∷ 0x00 ∷ 0x2a  -- error_code
+    ∷ 0x00 ∷ 0x00  -- error_message
     ∷ []
 
 -- what the answer to a CreateAcls is sent as
@@ -238,34 +240,42 @@ CreateAclsResponseFrame encode =
       throttle = pos 5;
       results = record { error = errors.None; message = None }
           ∷ record { error = errors.InvalidRequest; message = Some (text "no") }
+          ∷ record { error = errors.InvalidRequest; message = Some [] }
           ∷ [];
     }))
     ≡ create_acls_response
 
 -- ---- DeleteAcls Request, version 1
 
--- two filters, one with an empty text in place of null
+-- three filters, with texts, with null, and with empty texts
 abbrev pub delete_acls_request : List ℕ
 delete_acls_request =
     0x00 ∷ 0x1f  -- request_api_key
     ∷ 0x00 ∷ 0x01  -- request_api_version
     ∷ 0x01 ∷ 0x02 ∷ 0x03 ∷ 0x0a  -- correlation_id
     ∷ 0x00 ∷ 0x01 ∷ 0x63  -- client_id
-    ∷ 0x00 ∷ 0x00 ∷ 0x00 ∷ 0x02  -- [filters]
+    ∷ 0x00 ∷ 0x00 ∷ 0x00 ∷ 0x03  -- [filters]
     ∷ 0x05  -- resource_type_filter
     ∷ 0x00 ∷ 0x01 ∷ 0x78  -- resource_name_filter
     ∷ 0x02  -- pattern_type_filter
-    ∷ 0xff ∷ 0xff  -- principal_filter
+    ∷ 0x00 ∷ 0x06 ∷ 0x55 ∷ 0x73 ∷ 0x65 ∷ 0x72 ∷ 0x3a ∷ 0x61  -- principal_filter
     ∷ 0x00 ∷ 0x01 ∷ 0x68  -- host_filter
     ∷ 0x08  -- operation
     ∷ 0x03  -- permission_type
     ∷ 0x03  -- resource_type_filter
     ∷ 0xff ∷ 0xff  -- resource_name_filter
     ∷ 0x03  -- pattern_type_filter
-    ∷ 0x00 ∷ 0x00  -- principal_filter
+    ∷ 0xff ∷ 0xff  -- principal_filter
     ∷ 0xff ∷ 0xff  -- host_filter
     ∷ 0x0b  -- operation
     ∷ 0x01  -- permission_type
+    ∷ 0x01  -- resource_type_filter
+    ∷ 0x00 ∷ 0x00  -- resource_name_filter
+    ∷ 0x04  -- pattern_type_filter
+    ∷ 0x00 ∷ 0x00  -- principal_filter
+    ∷ 0x00 ∷ 0x00  -- host_filter
+    ∷ 0x02  -- operation
+    ∷ 0x03  -- permission_type
     ∷ []
 
 -- what the frame of a DeleteAcls is read as
@@ -283,7 +293,7 @@ DeleteAclsRequestFrame decode =
           kind = pos 5;
           name = Some (text "x");
           pattern = pos 2;
-          principal = None;
+          principal = Some (text "User:a");
           host = Some (text "h");
           operation = pos 8;
           permission = pos 3;
@@ -292,10 +302,19 @@ DeleteAclsRequestFrame decode =
               kind = pos 3;
               name = None;
               pattern = pos 3;
-              principal = Some [];
+              principal = None;
               host = None;
               operation = pos 11;
               permission = pos 1;
+            }
+            ∷ record {
+              kind = pos 1;
+              name = Some [];
+              pattern = pos 4;
+              principal = Some [];
+              host = Some [];
+              operation = pos 2;
+              permission = pos 3;
             }
             ∷ [];
       }),
@@ -303,16 +322,16 @@ DeleteAclsRequestFrame decode =
 
 -- ---- DeleteAcls Response, version 1
 
--- a filter that picked a binding, and one that is none
+-- a filter that picked two bindings, and one that is none
 abbrev pub delete_acls_response : List ℕ
 delete_acls_response =
-    0x00 ∷ 0x00 ∷ 0x00 ∷ 0x34  -- size
+    0x00 ∷ 0x00 ∷ 0x00 ∷ 0x4b  -- size
     ∷ 0x01 ∷ 0x02 ∷ 0x03 ∷ 0x0a  -- correlation_id
     ∷ 0x00 ∷ 0x00 ∷ 0x00 ∷ 0x05  -- throttle_time_ms
     ∷ 0x00 ∷ 0x00 ∷ 0x00 ∷ 0x02  -- [filter_results]
     ∷ 0x00 ∷ 0x00  -- error_code
     ∷ 0xff ∷ 0xff  -- error_message
-    ∷ 0x00 ∷ 0x00 ∷ 0x00 ∷ 0x01  -- [matching_acls]
+    ∷ 0x00 ∷ 0x00 ∷ 0x00 ∷ 0x02  -- [matching_acls]
     ∷ 0x00 ∷ 0x00  -- error_code
     ∷ 0xff ∷ 0xff  -- error_message
     ∷ 0x05  -- resource_type
@@ -322,6 +341,15 @@ delete_acls_response =
     ∷ 0x00 ∷ 0x01 ∷ 0x68  -- host
     ∷ 0x08  -- operation
     ∷ 0x02  -- permission_type
+    ∷ 0x00 ∷ 0x1f  -- error_code
+    ∷ 0x00 ∷ 0x01 ∷ 0x6d  -- error_message
+    ∷ 0x02  -- resource_type
+    ∷ 0x00 ∷ 0x01 ∷ 0x74  -- resource_name
+    ∷ 0x03  -- resource_pattern_type
+    ∷ 0x00 ∷ 0x06 ∷ 0x55 ∷ 0x73 ∷ 0x65 ∷ 0x72 ∷ 0x3a ∷ 0x62  -- principal
+    ∷ 0x00 ∷ 0x01 ∷ 0x2a  -- host
+    ∷ 0x03  -- operation
+    ∷ 0x03  -- permission_type
     ∷ 0x00 ∷ 0x2a  -- error_code
     ∷ 0x00 ∷ 0x02 ∷ 0x6e ∷ 0x6f  -- error_message
     ∷ 0x00 ∷ 0x00 ∷ 0x00 ∷ 0x00  -- [matching_acls]
@@ -349,6 +377,19 @@ DeleteAclsResponseFrame encode =
             permission = pos 2;
           };
         }
+            ∷ record {
+              error = errors.ClusterAuthorizationFailed;
+              message = Some (text "m");
+              binding = record {
+                kind = pos 2;
+                name = text "t";
+                pattern = pos 3;
+                principal = text "User:b";
+                host = text "*";
+                operation = pos 3;
+                permission = pos 3;
+              };
+            }
             ∷ [];
       }
           ∷ record { error = errors.InvalidRequest; message = Some (text "no"); matches = [] }

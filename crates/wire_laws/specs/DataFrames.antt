@@ -10,8 +10,8 @@ use Rattle.msg_admin.specs.declared.reply.Reply.TheVariants as replies
 
 -- ---- Produce Request, version 3
 
--- a batch of two bytes, null in place of a batch, and a topic without partitions, in a transaction,
--- with acks -1
+-- a batch of two bytes, null in place of a batch, no bytes, and a topic without partitions, in a
+-- transaction, with acks -1
 abbrev pub produce_request : List ℕ
 produce_request =
     0x00 ∷ 0x00  -- request_api_key
@@ -23,11 +23,13 @@ produce_request =
     ∷ 0x00 ∷ 0x00 ∷ 0x75 ∷ 0x30  -- timeout_ms
     ∷ 0x00 ∷ 0x00 ∷ 0x00 ∷ 0x02  -- [topic_data]
     ∷ 0x00 ∷ 0x06 ∷ 0x6f ∷ 0x72 ∷ 0x64 ∷ 0x65 ∷ 0x72 ∷ 0x73  -- name
-    ∷ 0x00 ∷ 0x00 ∷ 0x00 ∷ 0x02  -- [partitions]
+    ∷ 0x00 ∷ 0x00 ∷ 0x00 ∷ 0x03  -- [partitions]
     ∷ 0x00 ∷ 0x00 ∷ 0x00 ∷ 0x02  -- index
     ∷ 0x00 ∷ 0x00 ∷ 0x00 ∷ 0x02 ∷ 0xca ∷ 0xfe  -- records
     ∷ 0x00 ∷ 0x00 ∷ 0x00 ∷ 0x03  -- index
     ∷ 0xff ∷ 0xff ∷ 0xff ∷ 0xff  -- records
+    ∷ 0x00 ∷ 0x00 ∷ 0x00 ∷ 0x04  -- index
+    ∷ 0x00 ∷ 0x00 ∷ 0x00 ∷ 0x00  -- records
     ∷ 0x00 ∷ 0x05 ∷ 0x61 ∷ 0x75 ∷ 0x64 ∷ 0x69 ∷ 0x74  -- name
     ∷ 0x00 ∷ 0x00 ∷ 0x00 ∷ 0x00  -- [partitions]
     ∷ []
@@ -62,6 +64,7 @@ pub record ProduceRequestFrames (decode : Decoder) : Type 0 where
         name = text "orders";
         partitions = record { index = pos 2; records = Some (0xca ∷ 0xfe ∷ []) }
             ∷ record { index = pos 3; records = None }
+            ∷ record { index = pos 4; records = Some [] }
             ∷ [];
       }
           ∷ record { name = text "audit"; partitions = [] }
@@ -216,19 +219,21 @@ pub record FetchRequestFrames (decode : Decoder) : Type 0 where
 -- records of a partition in which a transaction was aborted, and a partition that is missing
 abbrev pub fetch_response : List ℕ
 fetch_response =
-    0x00 ∷ 0x00 ∷ 0x00 ∷ 0x84  -- size
+    0x00 ∷ 0x00 ∷ 0x00 ∷ 0x9f  -- size
     ∷ 0x01 ∷ 0x02 ∷ 0x03 ∷ 0x05  -- correlation_id
     ∷ 0x00 ∷ 0x00 ∷ 0x00 ∷ 0x05  -- throttle_time_ms
-    ∷ 0x00 ∷ 0x00 ∷ 0x00 ∷ 0x01  -- [responses]
+    ∷ 0x00 ∷ 0x00 ∷ 0x00 ∷ 0x02  -- [responses]
     ∷ 0x00 ∷ 0x06 ∷ 0x6f ∷ 0x72 ∷ 0x64 ∷ 0x65 ∷ 0x72 ∷ 0x73  -- name
     ∷ 0x00 ∷ 0x00 ∷ 0x00 ∷ 0x03  -- [partitions]
     ∷ 0x00 ∷ 0x00 ∷ 0x00 ∷ 0x02  -- partition_index
     ∷ 0x00 ∷ 0x00  -- error_code
     ∷ 0x00 ∷ 0x00 ∷ 0x00 ∷ 0x00 ∷ 0x00 ∷ 0x00 ∷ 0x00 ∷ 0x09  -- high_watermark
     ∷ 0x00 ∷ 0x00 ∷ 0x00 ∷ 0x00 ∷ 0x00 ∷ 0x00 ∷ 0x00 ∷ 0x07  -- last_stable_offset
-    ∷ 0x00 ∷ 0x00 ∷ 0x00 ∷ 0x01  -- [aborted_transactions]
+    ∷ 0x00 ∷ 0x00 ∷ 0x00 ∷ 0x02  -- [aborted_transactions]
     ∷ 0x00 ∷ 0x00 ∷ 0x00 ∷ 0x00 ∷ 0x00 ∷ 0x00 ∷ 0x0f ∷ 0xa0  -- producer_id
     ∷ 0x00 ∷ 0x00 ∷ 0x00 ∷ 0x00 ∷ 0x00 ∷ 0x00 ∷ 0x00 ∷ 0x03  -- first_offset
+    ∷ 0x00 ∷ 0x00 ∷ 0x00 ∷ 0x00 ∷ 0x00 ∷ 0x00 ∷ 0x0f ∷ 0xa1  -- producer_id
+    ∷ 0x00 ∷ 0x00 ∷ 0x00 ∷ 0x00 ∷ 0x00 ∷ 0x00 ∷ 0x00 ∷ 0x05  -- first_offset
     ∷ 0x00 ∷ 0x00 ∷ 0x00 ∷ 0x02 ∷ 0xca ∷ 0xfe  -- records
     ∷ 0x00 ∷ 0x00 ∷ 0x00 ∷ 0x03  -- partition_index
     ∷ 0x00 ∷ 0x03  -- error_code
@@ -242,6 +247,8 @@ fetch_response =
     ∷ 0x00 ∷ 0x00 ∷ 0x00 ∷ 0x00 ∷ 0x00 ∷ 0x00 ∷ 0x00 ∷ 0x06  -- last_stable_offset
     ∷ 0x00 ∷ 0x00 ∷ 0x00 ∷ 0x00  -- [aborted_transactions]
     ∷ 0x00 ∷ 0x00 ∷ 0x00 ∷ 0x00  -- records
+    ∷ 0x00 ∷ 0x05 ∷ 0x61 ∷ 0x75 ∷ 0x64 ∷ 0x69 ∷ 0x74  -- name
+    ∷ 0x00 ∷ 0x00 ∷ 0x00 ∷ 0x00  -- [partitions]
     ∷ []
 
 -- what the answer to a Fetch is sent as
@@ -257,7 +264,9 @@ FetchResponseFrame encode =
           error = errors.None;
           high_watermark = pos 9;
           last_stable_offset = pos 7;
-          aborted = Some (record { producer = pos 4000; first_offset = pos 3 } ∷ []);
+          aborted = Some (record { producer = pos 4000; first_offset = pos 3 }
+              ∷ record { producer = pos 4001; first_offset = pos 5 }
+              ∷ []);
           records = 0xca ∷ 0xfe ∷ [];
         }
             ∷ record {
@@ -278,6 +287,7 @@ FetchResponseFrame encode =
             }
             ∷ [];
       }
+          ∷ record { name = text "audit"; partitions = [] }
           ∷ [];
     }))
     ≡ fetch_response
@@ -293,13 +303,15 @@ committed_list_offsets_request =
     ∷ 0x00 ∷ 0x01 ∷ 0x63  -- client_id
     ∷ 0xff ∷ 0xff ∷ 0xff ∷ 0xff  -- replica_id
     ∷ 0x01  -- isolation_level
-    ∷ 0x00 ∷ 0x00 ∷ 0x00 ∷ 0x01  -- [topics]
+    ∷ 0x00 ∷ 0x00 ∷ 0x00 ∷ 0x02  -- [topics]
     ∷ 0x00 ∷ 0x06 ∷ 0x6f ∷ 0x72 ∷ 0x64 ∷ 0x65 ∷ 0x72 ∷ 0x73  -- name
     ∷ 0x00 ∷ 0x00 ∷ 0x00 ∷ 0x02  -- [partitions]
     ∷ 0x00 ∷ 0x00 ∷ 0x00 ∷ 0x02  -- partition_index
     ∷ 0xff ∷ 0xff ∷ 0xff ∷ 0xff ∷ 0xff ∷ 0xff ∷ 0xff ∷ 0xff  -- timestamp
     ∷ 0x00 ∷ 0x00 ∷ 0x00 ∷ 0x03  -- partition_index
     ∷ 0xff ∷ 0xff ∷ 0xff ∷ 0xff ∷ 0xff ∷ 0xff ∷ 0xff ∷ 0xfe  -- timestamp
+    ∷ 0x00 ∷ 0x05 ∷ 0x61 ∷ 0x75 ∷ 0x64 ∷ 0x69 ∷ 0x74  -- name
+    ∷ 0x00 ∷ 0x00 ∷ 0x00 ∷ 0x00  -- [partitions]
     ∷ []
 
 -- READ_UNCOMMITTED, and a time
@@ -336,6 +348,7 @@ pub record ListOffsetsRequestFrames (decode : Decoder) : Type 0 where
             ∷ record { index = pos 3; timestamp = negsuc 1 }
             ∷ [];
       }
+          ∷ record { name = text "audit"; partitions = [] }
           ∷ [];
     }),
   )
@@ -357,10 +370,10 @@ pub record ListOffsetsRequestFrames (decode : Decoder) : Type 0 where
 -- an offset, and a time that isn't answered
 abbrev pub list_offsets_response : List ℕ
 list_offsets_response =
-    0x00 ∷ 0x00 ∷ 0x00 ∷ 0x44  -- size
+    0x00 ∷ 0x00 ∷ 0x00 ∷ 0x4f  -- size
     ∷ 0x01 ∷ 0x02 ∷ 0x03 ∷ 0x06  -- correlation_id
     ∷ 0x00 ∷ 0x00 ∷ 0x00 ∷ 0x05  -- throttle_time_ms
-    ∷ 0x00 ∷ 0x00 ∷ 0x00 ∷ 0x01  -- [topics]
+    ∷ 0x00 ∷ 0x00 ∷ 0x00 ∷ 0x02  -- [topics]
     ∷ 0x00 ∷ 0x06 ∷ 0x6f ∷ 0x72 ∷ 0x64 ∷ 0x65 ∷ 0x72 ∷ 0x73  -- name
     ∷ 0x00 ∷ 0x00 ∷ 0x00 ∷ 0x02  -- [partitions]
     ∷ 0x00 ∷ 0x00 ∷ 0x00 ∷ 0x02  -- partition_index
@@ -371,6 +384,8 @@ list_offsets_response =
     ∷ 0x00 ∷ 0x2a  -- error_code
     ∷ 0xff ∷ 0xff ∷ 0xff ∷ 0xff ∷ 0xff ∷ 0xff ∷ 0xff ∷ 0xff  -- timestamp
     ∷ 0xff ∷ 0xff ∷ 0xff ∷ 0xff ∷ 0xff ∷ 0xff ∷ 0xff ∷ 0xff  -- offset
+    ∷ 0x00 ∷ 0x05 ∷ 0x61 ∷ 0x75 ∷ 0x64 ∷ 0x69 ∷ 0x74  -- name
+    ∷ 0x00 ∷ 0x00 ∷ 0x00 ∷ 0x00  -- [partitions]
     ∷ []
 
 -- what the answer to a ListOffsets is sent as
@@ -395,6 +410,7 @@ ListOffsetsResponseFrame encode =
             }
             ∷ [];
       }
+          ∷ record { name = text "audit"; partitions = [] }
           ∷ [];
     }))
     ≡ list_offsets_response
@@ -455,13 +471,13 @@ pub record MetadataRequestFrames (decode : Decoder) : Type 0 where
 
 -- ---- Metadata Response, version 1
 
--- a broker with a rack and one without, a topic with two partitions, a topic of the broker's own,
--- and a topic that is refused
+-- three brokers, with a rack, without one and with an empty one; a topic with two partitions, one
+-- that is internal, and one that is refused
 abbrev pub metadata_response : List ℕ
 metadata_response =
-    0x00 ∷ 0x00 ∷ 0x00 ∷ 0x8a  -- size
+    0x00 ∷ 0x00 ∷ 0x00 ∷ 0x9a  -- size
     ∷ 0x01 ∷ 0x02 ∷ 0x03 ∷ 0x07  -- correlation_id
-    ∷ 0x00 ∷ 0x00 ∷ 0x00 ∷ 0x02  -- [brokers]
+    ∷ 0x00 ∷ 0x00 ∷ 0x00 ∷ 0x03  -- [brokers]
     ∷ 0x00 ∷ 0x00 ∷ 0x00 ∷ 0x01  -- node_id
     ∷ 0x00 ∷ 0x05 ∷ 0x6b ∷ 0x61 ∷ 0x66 ∷ 0x6b ∷ 0x61  -- host
     ∷ 0x00 ∷ 0x00 ∷ 0x23 ∷ 0x84  -- port
@@ -470,6 +486,10 @@ metadata_response =
     ∷ 0x00 ∷ 0x01 ∷ 0x62  -- host
     ∷ 0x00 ∷ 0x00 ∷ 0x23 ∷ 0x85  -- port
     ∷ 0xff ∷ 0xff  -- rack
+    ∷ 0x00 ∷ 0x00 ∷ 0x00 ∷ 0x03  -- node_id
+    ∷ 0x00 ∷ 0x00  -- host
+    ∷ 0x00 ∷ 0x00 ∷ 0x00 ∷ 0x00  -- port
+    ∷ 0x00 ∷ 0x00  -- rack
     ∷ 0x00 ∷ 0x00 ∷ 0x00 ∷ 0x01  -- controller_id
     ∷ 0x00 ∷ 0x00 ∷ 0x00 ∷ 0x03  -- [topics]
     ∷ 0x00 ∷ 0x00  -- error_code
@@ -488,8 +508,9 @@ metadata_response =
     ∷ 0x00 ∷ 0x00 ∷ 0x00 ∷ 0x04  -- partition_index
     ∷ 0x00 ∷ 0x00 ∷ 0x00 ∷ 0x02  -- leader_id
     ∷ 0x00 ∷ 0x00 ∷ 0x00 ∷ 0x00  -- [replica_nodes]
-    ∷ 0x00 ∷ 0x00 ∷ 0x00 ∷ 0x01  -- [isr_nodes]
+    ∷ 0x00 ∷ 0x00 ∷ 0x00 ∷ 0x02  -- [isr_nodes]
     ∷ 0x00 ∷ 0x00 ∷ 0x00 ∷ 0x05  -- isr_nodes
+    ∷ 0x00 ∷ 0x00 ∷ 0x00 ∷ 0x06  -- isr_nodes
     ∷ 0x00 ∷ 0x00  -- error_code
     ∷ 0x00 ∷ 0x01 ∷ 0x6f  -- name
     ∷ 0x01  -- is_internal
@@ -512,6 +533,7 @@ MetadataResponseFrame encode =
         rack = Some (text "r");
       }
           ∷ record { node = pos 2; host = text "b"; port = pos 9093; rack = None }
+          ∷ record { node = pos 3; host = []; port = pos 0; rack = Some [] }
           ∷ [];
       controller = pos 1;
       topics = record {
@@ -530,7 +552,7 @@ MetadataResponseFrame encode =
               index = pos 4;
               leader = pos 2;
               replicas = [];
-              in_sync = pos 5 ∷ [];
+              in_sync = pos 5 ∷ pos 6 ∷ [];
             }
             ∷ [];
       }

@@ -21,7 +21,7 @@ offset_commit_request =
     ∷ 0x00 ∷ 0x00 ∷ 0x00 ∷ 0x04  -- generation_id
     ∷ 0x00 ∷ 0x03 ∷ 0x6d ∷ 0x2d ∷ 0x31  -- member_id
     ∷ 0xff ∷ 0xff ∷ 0xff ∷ 0xff ∷ 0xff ∷ 0xff ∷ 0xff ∷ 0xff  -- retention_time_ms
-    ∷ 0x00 ∷ 0x00 ∷ 0x00 ∷ 0x01  -- [topics]
+    ∷ 0x00 ∷ 0x00 ∷ 0x00 ∷ 0x02  -- [topics]
     ∷ 0x00 ∷ 0x06 ∷ 0x6f ∷ 0x72 ∷ 0x64 ∷ 0x65 ∷ 0x72 ∷ 0x73  -- name
     ∷ 0x00 ∷ 0x00 ∷ 0x00 ∷ 0x03  -- [partitions]
     ∷ 0x00 ∷ 0x00 ∷ 0x00 ∷ 0x02  -- partition_index
@@ -33,6 +33,8 @@ offset_commit_request =
     ∷ 0x00 ∷ 0x00 ∷ 0x00 ∷ 0x04  -- partition_index
     ∷ 0x00 ∷ 0x00 ∷ 0x00 ∷ 0x00 ∷ 0x00 ∷ 0x00 ∷ 0x00 ∷ 0x2c  -- committed_offset
     ∷ 0x00 ∷ 0x00  -- committed_metadata
+    ∷ 0x00 ∷ 0x05 ∷ 0x61 ∷ 0x75 ∷ 0x64 ∷ 0x69 ∷ 0x74  -- name
+    ∷ 0x00 ∷ 0x00 ∷ 0x00 ∷ 0x00  -- [partitions]
     ∷ []
 
 -- what the frame of an OffsetCommit is read as
@@ -57,6 +59,7 @@ OffsetCommitRequestFrame decode =
               ∷ record { index = pos 4; offset = pos 44; metadata = Some [] }
               ∷ [];
         }
+            ∷ record { name = text "audit"; partitions = [] }
             ∷ [];
       }),
     )
@@ -66,15 +69,17 @@ OffsetCommitRequestFrame decode =
 -- the answer to an OffsetCommit
 abbrev pub offset_commit_response : List ℕ
 offset_commit_response =
-    0x00 ∷ 0x00 ∷ 0x00 ∷ 0x20  -- size
+    0x00 ∷ 0x00 ∷ 0x00 ∷ 0x2b  -- size
     ∷ 0x01 ∷ 0x02 ∷ 0x03 ∷ 0x20  -- correlation_id
-    ∷ 0x00 ∷ 0x00 ∷ 0x00 ∷ 0x01  -- [topics]
+    ∷ 0x00 ∷ 0x00 ∷ 0x00 ∷ 0x02  -- [topics]
     ∷ 0x00 ∷ 0x06 ∷ 0x6f ∷ 0x72 ∷ 0x64 ∷ 0x65 ∷ 0x72 ∷ 0x73  -- name
     ∷ 0x00 ∷ 0x00 ∷ 0x00 ∷ 0x02  -- [partitions]
     ∷ 0x00 ∷ 0x00 ∷ 0x00 ∷ 0x02  -- partition_index
     ∷ 0x00 ∷ 0x00  -- error_code
     ∷ 0x00 ∷ 0x00 ∷ 0x00 ∷ 0x03  -- partition_index
     ∷ 0x00 ∷ 0x16  -- error_code
+    ∷ 0x00 ∷ 0x05 ∷ 0x61 ∷ 0x75 ∷ 0x64 ∷ 0x69 ∷ 0x74  -- name
+    ∷ 0x00 ∷ 0x00 ∷ 0x00 ∷ 0x00  -- [partitions]
     ∷ []
 
 -- what the answer to an OffsetCommit is sent as
@@ -88,13 +93,14 @@ OffsetCommitResponseFrame encode =
             ∷ record { index = pos 3; error = errors.IllegalGeneration }
             ∷ [];
       }
+          ∷ record { name = text "audit"; partitions = [] }
           ∷ [];
     }))
     ≡ offset_commit_response
 
 -- ---- OffsetFetch Request, version 7
 
--- stable offsets of two partitions: 1
+-- stable offsets, which are asked for by 1, of two partitions
 abbrev pub stable_offset_fetch_request : List ℕ
 stable_offset_fetch_request =
     0x00 ∷ 0x09  -- request_api_key
@@ -103,17 +109,20 @@ stable_offset_fetch_request =
     ∷ 0x00 ∷ 0x01 ∷ 0x63  -- client_id
     ∷ 0x00  -- TAG_BUFFER
     ∷ 0x04 ∷ 0x61 ∷ 0x70 ∷ 0x70  -- group_id
-    ∷ 0x02  -- [topics]
+    ∷ 0x03  -- [topics]
     ∷ 0x07 ∷ 0x6f ∷ 0x72 ∷ 0x64 ∷ 0x65 ∷ 0x72 ∷ 0x73  -- name
     ∷ 0x03  -- [partition_indexes]
     ∷ 0x00 ∷ 0x00 ∷ 0x00 ∷ 0x02  -- partition_indexes
     ∷ 0x00 ∷ 0x00 ∷ 0x00 ∷ 0x03  -- partition_indexes
     ∷ 0x00  -- TAG_BUFFER
+    ∷ 0x06 ∷ 0x61 ∷ 0x75 ∷ 0x64 ∷ 0x69 ∷ 0x74  -- name
+    ∷ 0x01  -- [partition_indexes]
+    ∷ 0x00  -- TAG_BUFFER
     ∷ 0x01  -- require_stable
     ∷ 0x00  -- TAG_BUFFER
     ∷ []
 
--- all offsets, the unstable too: null and 0, with tagged fields that no version knows
+-- all offsets, by null, the unstable too, by 0, with tagged fields that no version knows
 abbrev pub offset_fetch_request_for_all : List ℕ
 offset_fetch_request_for_all =
     0x00 ∷ 0x09  -- request_api_key
@@ -152,7 +161,9 @@ pub record OffsetFetchRequestFrames (decode : Decoder) : Type 0 where
     },
     requests.OffsetFetch (record {
       group = text "app";
-      topics = Some (record { name = text "orders"; partitions = pos 2 ∷ pos 3 ∷ [] } ∷ []);
+      topics = Some (record { name = text "orders"; partitions = pos 2 ∷ pos 3 ∷ [] }
+          ∷ record { name = text "audit"; partitions = [] }
+          ∷ []);
       require_stable = true;
     }),
   )
@@ -170,11 +181,11 @@ pub record OffsetFetchRequestFrames (decode : Decoder) : Type 0 where
 -- the answer to an OffsetFetch
 abbrev pub offset_fetch_response : List ℕ
 offset_fetch_response =
-    0x00 ∷ 0x00 ∷ 0x00 ∷ 0x56  -- size
+    0x00 ∷ 0x00 ∷ 0x00 ∷ 0x5e  -- size
     ∷ 0x01 ∷ 0x02 ∷ 0x03 ∷ 0x21  -- correlation_id
     ∷ 0x00  -- TAG_BUFFER
     ∷ 0x00 ∷ 0x00 ∷ 0x00 ∷ 0x05  -- throttle_time_ms
-    ∷ 0x02  -- [topics]
+    ∷ 0x03  -- [topics]
     ∷ 0x07 ∷ 0x6f ∷ 0x72 ∷ 0x64 ∷ 0x65 ∷ 0x72 ∷ 0x73  -- name
     ∷ 0x04  -- [partitions]
     ∷ 0x00 ∷ 0x00 ∷ 0x00 ∷ 0x02  -- partition_index
@@ -195,6 +206,9 @@ offset_fetch_response =
     ∷ 0x01  -- metadata
     ∷ 0x00 ∷ 0x00  -- error_code
     ∷ 0x00  -- TAG_BUFFER
+    ∷ 0x00  -- TAG_BUFFER
+    ∷ 0x06 ∷ 0x61 ∷ 0x75 ∷ 0x64 ∷ 0x69 ∷ 0x74  -- name
+    ∷ 0x01  -- [partitions]
     ∷ 0x00  -- TAG_BUFFER
     ∷ 0x00 ∷ 0x1e  -- error_code
     ∷ 0x00  -- TAG_BUFFER
@@ -231,6 +245,7 @@ OffsetFetchResponseFrame encode =
             }
             ∷ [];
       }
+          ∷ record { name = text "audit"; partitions = [] }
           ∷ [];
       error = errors.GroupAuthorizationFailed;
     }))

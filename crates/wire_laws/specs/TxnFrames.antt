@@ -127,6 +127,17 @@ plain_init_producer_id_request =
     ∷ 0x7f ∷ 0xff ∷ 0xff ∷ 0xff  -- transaction_timeout_ms
     ∷ []
 
+-- with an empty one
+abbrev pub empty_init_producer_id_request : List ℕ
+empty_init_producer_id_request =
+    0x00 ∷ 0x16  -- request_api_key
+    ∷ 0x00 ∷ 0x00  -- request_api_version
+    ∷ 0x00 ∷ 0x00 ∷ 0x00 ∷ 0x10  -- correlation_id
+    ∷ 0x00 ∷ 0x01 ∷ 0x63  -- client_id
+    ∷ 0x00 ∷ 0x00  -- transactional_id
+    ∷ 0x00 ∷ 0x00 ∷ 0x00 ∷ 0x01  -- transaction_timeout_ms
+    ∷ []
+
 -- what the frames of an InitProducerId are read as
 pub record InitProducerIdRequestFrames (decode : Decoder) : Type 0 where
   pub transactional : decode init_producer_id_request ≡ Ok (
@@ -144,6 +155,10 @@ pub record InitProducerIdRequestFrames (decode : Decoder) : Type 0 where
   pub plain : decode plain_init_producer_id_request ≡ Ok (
     record { key = pos 22; version = pos 0; correlation = pos 12; client = Some (text "c") },
     requests.InitProducerId (record { transactional_id = None; timeout = pos 0x7fffffff }),
+  )
+  pub empty : decode empty_init_producer_id_request ≡ Ok (
+    record { key = pos 22; version = pos 0; correlation = pos 16; client = Some (text "c") },
+    requests.InitProducerId (record { transactional_id = Some []; timeout = pos 1 }),
   )
 
 -- ---- InitProducerId Response, version 0
@@ -759,7 +774,7 @@ txn_offset_commit_request =
     ∷ 0x00 ∷ 0x00 ∷ 0x00 ∷ 0x04  -- generation_id
     ∷ 0x04 ∷ 0x6d ∷ 0x2d ∷ 0x31  -- member_id
     ∷ 0x00  -- group_instance_id
-    ∷ 0x02  -- [topics]
+    ∷ 0x03  -- [topics]
     ∷ 0x07 ∷ 0x6f ∷ 0x72 ∷ 0x64 ∷ 0x65 ∷ 0x72 ∷ 0x73  -- name
     ∷ 0x04  -- [partitions]
     ∷ 0x00 ∷ 0x00 ∷ 0x00 ∷ 0x02  -- partition_index
@@ -777,6 +792,9 @@ txn_offset_commit_request =
     ∷ 0x00 ∷ 0x00 ∷ 0x00 ∷ 0x07  -- committed_leader_epoch
     ∷ 0x01  -- committed_metadata
     ∷ 0x00  -- TAG_BUFFER
+    ∷ 0x00  -- TAG_BUFFER
+    ∷ 0x06 ∷ 0x61 ∷ 0x75 ∷ 0x64 ∷ 0x69 ∷ 0x74  -- name
+    ∷ 0x01  -- [partitions]
     ∷ 0x00  -- TAG_BUFFER
     ∷ 0x00  -- TAG_BUFFER
     ∷ []
@@ -834,6 +852,7 @@ pub record TxnOffsetCommitRequestFrames (decode : Decoder) : Type 0 where
             }
             ∷ [];
       }
+          ∷ record { name = text "audit"; partitions = [] }
           ∷ [];
     }),
   )
@@ -856,11 +875,11 @@ pub record TxnOffsetCommitRequestFrames (decode : Decoder) : Type 0 where
 -- the answer to a TxnOffsetCommit
 abbrev pub txn_offset_commit_response : List ℕ
 txn_offset_commit_response =
-    0x00 ∷ 0x00 ∷ 0x00 ∷ 0x22  -- size
+    0x00 ∷ 0x00 ∷ 0x00 ∷ 0x2a  -- size
     ∷ 0x01 ∷ 0x02 ∷ 0x03 ∷ 0x0f  -- correlation_id
     ∷ 0x00  -- TAG_BUFFER
     ∷ 0x00 ∷ 0x00 ∷ 0x00 ∷ 0x05  -- throttle_time_ms
-    ∷ 0x02  -- [topics]
+    ∷ 0x03  -- [topics]
     ∷ 0x07 ∷ 0x6f ∷ 0x72 ∷ 0x64 ∷ 0x65 ∷ 0x72 ∷ 0x73  -- name
     ∷ 0x03  -- [partitions]
     ∷ 0x00 ∷ 0x00 ∷ 0x00 ∷ 0x02  -- partition_index
@@ -869,6 +888,9 @@ txn_offset_commit_response =
     ∷ 0x00 ∷ 0x00 ∷ 0x00 ∷ 0x03  -- partition_index
     ∷ 0x00 ∷ 0x30  -- error_code
     ∷ 0x00  -- TAG_BUFFER
+    ∷ 0x00  -- TAG_BUFFER
+    ∷ 0x06 ∷ 0x61 ∷ 0x75 ∷ 0x64 ∷ 0x69 ∷ 0x74  -- name
+    ∷ 0x01  -- [partitions]
     ∷ 0x00  -- TAG_BUFFER
     ∷ 0x00  -- TAG_BUFFER
     ∷ []
@@ -885,6 +907,7 @@ TxnOffsetCommitResponseFrame encode =
             ∷ record { index = pos 3; error = errors.InvalidTxnState }
             ∷ [];
       }
+          ∷ record { name = text "audit"; partitions = [] }
           ∷ [];
     }))
     ≡ txn_offset_commit_response

@@ -9,7 +9,7 @@ use Rattle.msg_admin.specs.declared.reply.Reply.{Reply}
 use Rattle.msg_admin.specs.Request.{request_at}
 use Rattle.msg_admin.specs.Response.{response}
 use Rattle.wire_laws.specs.Frames.{Decoder, Encoder}
-use Rattle.wire_laws.specs.WrongFrames.{null_is_empty, with_request, each, each_partition}
+use Rattle.wire_laws.specs.WrongFrames.{null_is_empty, empty_is_null, with_request, each, each_partition}
 use Rattle.msg_txn.specs.declared.end_txn.EndTxnRequest.TheVariants as end_txns
 use Rattle.msg_txn.specs.declared.end_txn.EndTxnReply.TheVariants as ended
 use Rattle.msg_admin.specs.declared.request.Request.TheVariants as requests
@@ -113,6 +113,17 @@ fill_ids r = r
 -- a transactional_id that is null is read as an empty one
 abbrev pub null_transactional_ids_are_empty : Decoder
 null_transactional_ids_are_empty = with_request fill_ids request_at
+
+-- the next mistake, in a Request
+abbrev drop_ids : Request → Request
+drop_ids (requests.InitProducerId r) =
+    requests.InitProducerId
+    (record r { transactional_id = empty_is_null r.transactional_id })
+drop_ids r = r
+
+-- an empty transactional_id is read as null, so that a producer without one is made
+abbrev pub empty_transactional_ids_are_null : Decoder
+empty_transactional_ids_are_null = with_request drop_ids request_at
 
 -- the next mistake, in a Request
 abbrev exchange_staged : Request → Request

@@ -18,6 +18,10 @@ pub returns-clause-not_null_transactional_ids_are_empty : goal.returns-clause-no
 unfolding is_utf8 chars encode nat_at int_at front_at utf8_at null_or after_null_count_at null_or_count null_count_at is_flexible api_at all_keys key_at request_body request_at
 returns-clause-not_null_transactional_ids_are_empty c = search rules
 
+pub returns-clause-not_empty_transactional_ids_are_null : goal.returns-clause-not_empty_transactional_ids_are_null
+unfolding is_utf8 chars encode nat_at int_at front_at utf8_at null_or after_null_count_at null_or_count null_count_at is_flexible api_at all_keys key_at request_body request_at
+returns-clause-not_empty_transactional_ids_are_null c = search rules
+
 pub returns-clause-answered : goal.returns-clause-answered
 unfolding int_written number_of is_flexible reply_body
 returns-clause-answered c = search rules
