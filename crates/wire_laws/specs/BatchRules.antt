@@ -17,6 +17,7 @@ use Rattle.wire_laws.specs.Batches.{plain_batch, producer_batch, compressed_batc
 abbrev pub BatchRule : Type 0
 BatchRule = ℕ → List ℕ → ℤ
 
+-- the error code of a fault, and 0 where there is none
 abbrev answered : Option BatchFault → ℤ
 answered None = pos 0
 answered (Some fault) = number_of (code_of fault)

@@ -1,6 +1,6 @@
 -- Batches, byte by byte, and what each is (Kafka documentation, "Record Batch" and "Control
 -- Batches"). Those of data are batches of kafka-python 2.0.2, whose builder was given these
--- records. The markers, and the batches with other attributes, were written down by the
+-- records. The markers, and the batches with other attributes, were written down by hand, after the
 -- documentation. All sums are those of Java's CRC32C.
 use Rattle.std.specs.Prelude.{◌≡◌, ℕ, ℤ, pos, List, [], ◌∷◌, Some, None, codes as text}
 use Rattle.record_batch.specs.declared.transaction_result.TransactionResult.{TransactionResult}

@@ -1,7 +1,8 @@
 -- Frames of JoinGroup, SyncGroup, Heartbeat, LeaveGroup, OffsetCommit and OffsetFetch, byte by
 -- byte, and what each spells (Kafka protocol guide, "The Messages"). The bytes are those of
 -- kafka-python 2.0.2, whose structs were given the same values; those of OffsetFetch 7 were written
--- down by the protocol guide ("OffsetFetch API (Key: 9)"), as that library doesn't have them.
+-- down by hand, after the protocol guide ("OffsetFetch API (Key: 9)"), as that library doesn't have
+-- them.
 use Rattle.std.specs.Prelude.{ℕ, pos, negsuc, List, [], ◌∷◌, true, false, Some, None, Ok, ◌≡◌, codes as text}
 use Rattle.wire_laws.specs.Frames.{Decoder, Encoder}
 use Rattle.wire_types.specs.declared.error_code.ErrorCode.TheVariants as errors

@@ -1,5 +1,6 @@
 -- Frames that are no requests, replies without bytes, and texts whose length takes two bytes (Kafka
--- protocol guide, "Protocol Primitive Types"; KIP-482). The bytes were written down by the guide.
+-- protocol guide, "Protocol Primitive Types"; KIP-482). The bytes were written down by hand, after
+-- the guide.
 use Rattle.std.specs.Prelude.{◌≡◌, ℕ, ℤ, pos, negsuc, List, [], ◌∷◌, ◌++◌, true, None, Ok, Err}
 use Rattle.wire_types.specs.declared.fault.Malformed.TheVariants.{Unknown, Short, Range, Rest, Utf8}
 use Rattle.msg_data.specs.declared.produce.ProduceReply.{ProduceReply}

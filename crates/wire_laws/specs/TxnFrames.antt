@@ -2,7 +2,7 @@
 -- TxnOffsetCommit, byte by byte, and what each spells (Kafka protocol guide, "The Messages"). The
 -- bytes are those of Sarama 1.22.1, whose structs were given the same values, and a
 -- FindCoordinator's request is one of kafka-python 2.0.2; those of EndTxn 1 to 5 and of
--- TxnOffsetCommit 3 were written down by the protocol guide ("EndTxn API (Key: 26)",
+-- TxnOffsetCommit 3 were written down by hand, after the protocol guide ("EndTxn API (Key: 26)",
 -- "TxnOffsetCommit API (Key: 28)"), as neither library has them.
 use Rattle.std.specs.Prelude.{ℕ, pos, negsuc, List, [], ◌∷◌, true, false, Some, None, Ok, ◌≡◌, codes as text}
 use Rattle.wire_laws.specs.Frames.{Decoder, Encoder}

@@ -1,7 +1,7 @@
 -- The versions in which each api is served, what a frame in another version is, and what
 -- ApiVersions is answered (Kafka protocol guide, "Api Keys" and "Retrieving Supported API
 -- versions"; KIP-511). The answers' bytes are those of kafka-python 2.0.2; the requests were
--- written down by the protocol guide ("ApiVersions API (Key: 18)").
+-- written down by hand, after the protocol guide ("ApiVersions API (Key: 18)").
 use Rattle.std.specs.Prelude.{◌≡◌, ℕ, ℤ, pos, List, [], ◌∷◌, Option, None}
 use Rattle.wire_types.specs.declared.fault.Malformed.TheVariants.{Unknown}
 use Rattle.msg_admin.specs.declared.api_key.ApiKey.TheVariants as keys
