@@ -1,9 +1,11 @@
 -- Wrong decoders and encoders of the messages about transactions: each is the right one, but for
 -- one mistake.
-use Rattle.std.specs.Prelude.{ℤ, pos, reverse, not, if◌then◌else◌}
+use Rattle.std.specs.Prelude.{ℕ, ℤ, pos, reverse, not, if◌then◌else◌, Ok}
 use Rattle.std.specs.Ordering.{int_eq}
+use Rattle.wire_types.specs.Reading.{◌>>=◌}
 use Rattle.msg_txn.specs.declared.end_txn.EndTxn.{EndTxn}
 use Rattle.msg_txn.specs.declared.end_txn.EndTxnRequest.{EndTxnRequest}
+use Rattle.msg_admin.specs.declared.header.Header.{Header}
 use Rattle.msg_admin.specs.declared.request.Request.{Request}
 use Rattle.msg_admin.specs.declared.reply.Reply.{Reply}
 use Rattle.msg_admin.specs.Request.{request_at}
@@ -36,6 +38,18 @@ swap_commits r = r
 -- a BOOLEAN is read as true where it is 0, so that a commit aborts
 abbrev pub commits_and_aborts_swapped : Decoder
 commits_and_aborts_swapped = with_request swap_commits request_at
+
+-- the same of what is read in one version
+abbrev swap_commits_in : ℕ → Header × Request → Header × Request
+swap_commits_in version (h, r) =
+    if int_eq h.version (pos version)
+    then (h, swap_commits r)
+    else (h, r)
+
+-- the same in one version alone
+abbrev pub commits_and_aborts_swapped_in : ℕ → Decoder
+commits_and_aborts_swapped_in version bytes =
+    request_at bytes >>= λ x. Ok (swap_commits_in version x)
 
 -- the next mistake, in an EndTxnRequest
 abbrev lower_version : EndTxnRequest → EndTxnRequest

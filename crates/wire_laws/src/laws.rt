@@ -8,7 +8,7 @@ ghost use Rattle.wire_laws.specs.WrongAcl.{operation_and_permission_exchanged, p
 ghost use Rattle.wire_laws.specs.DataFrames.{ProduceRequestFrames, ProduceResponseFrame, FetchRequestFrames, FetchResponseFrame, ListOffsetsRequestFrames, ListOffsetsResponseFrame, MetadataRequestFrames, MetadataResponseFrame};
 ghost use Rattle.wire_laws.specs.WrongData.{isolation_levels_swapped, waits_and_sizes_exchanged, null_topics_are_none, no_topics_are_all, acks_are_unsigned, null_records_are_empty, corrupt_and_invalid_swapped, base_offset_and_append_time_exchanged, high_watermark_and_last_stable_offset_exchanged, aborted_producer_and_offset_exchanged, null_aborted_is_empty, timestamp_and_offset_exchanged, internal_inverted, replicas_and_in_sync_exchanged};
 ghost use Rattle.wire_laws.specs.TxnFrames.{FindCoordinatorRequestFrames, FindCoordinatorResponseFrames, InitProducerIdRequestFrames, InitProducerIdResponseFrame, AddPartitionsToTxnRequestFrame, AddPartitionsToTxnResponseFrame, AddOffsetsToTxnRequestFrame, AddOffsetsToTxnResponseFrame, EndTxnRequestFrames, EndTxnResponseFrames, TxnOffsetCommitRequestFrames, TxnOffsetCommitResponseFrame};
-ghost use Rattle.wire_laws.specs.WrongTxn.{commits_and_aborts_swapped, version_5_is_version_4, transaction_and_group_exchanged, producer_and_epoch_exchanged, partitions_in_reverse, key_types_swapped, null_transactional_ids_are_empty, empty_transactional_ids_are_null, staged_offset_and_leader_epoch_exchanged, told_producer_and_epoch_exchanged, node_and_port_exchanged, throttles_are_zero};
+ghost use Rattle.wire_laws.specs.WrongTxn.{commits_and_aborts_swapped, commits_and_aborts_swapped_in, version_5_is_version_4, transaction_and_group_exchanged, producer_and_epoch_exchanged, partitions_in_reverse, key_types_swapped, null_transactional_ids_are_empty, empty_transactional_ids_are_null, staged_offset_and_leader_epoch_exchanged, told_producer_and_epoch_exchanged, node_and_port_exchanged, throttles_are_zero};
 ghost use Rattle.wire_laws.specs.GroupFrames.{OffsetCommitRequestFrame, OffsetCommitResponseFrame, OffsetFetchRequestFrames, OffsetFetchResponseFrame, JoinGroupRequestFrame, JoinGroupResponseFrame, HeartbeatRequestFrame, HeartbeatResponseFrame, LeaveGroupRequestFrame, LeaveGroupResponseFrame, SyncGroupRequestFrame, SyncGroupResponseFrame};
 ghost use Rattle.wire_laws.specs.WrongGroup.{heartbeat_and_leave_swapped, join_and_sync_swapped, group_and_member_exchanged, timeouts_exchanged, require_stable_inverted, null_offsets_are_none, null_metadata_is_empty, leader_and_member_exchanged, unknown_member_and_rebalance_swapped, fetched_offset_and_leader_epoch_exchanged, errors_are_none, assignments_are_empty};
 ghost use Rattle.wire_laws.specs.LoginFrames.{SaslHandshakeRequestFrame, SaslHandshakeResponseFrame, ApiVersionsRequestFrame, ApiVersionsResponseFrame, SaslAuthenticateRequestFrame, SaslAuthenticateResponseFrames};
@@ -165,6 +165,12 @@ pub fn add_offsets_to_txn_frames()
 pub fn end_txn_frames()
     ensures asked { EndTxnRequestFrames request_at }
     ensures not_commits_and_aborts_swapped { ¬ EndTxnRequestFrames commits_and_aborts_swapped }
+    ensures not_commits_and_aborts_swapped_in_0 { ¬ EndTxnRequestFrames (commits_and_aborts_swapped_in 0) }
+    ensures not_commits_and_aborts_swapped_in_1 { ¬ EndTxnRequestFrames (commits_and_aborts_swapped_in 1) }
+    ensures not_commits_and_aborts_swapped_in_2 { ¬ EndTxnRequestFrames (commits_and_aborts_swapped_in 2) }
+    ensures not_commits_and_aborts_swapped_in_3 { ¬ EndTxnRequestFrames (commits_and_aborts_swapped_in 3) }
+    ensures not_commits_and_aborts_swapped_in_4 { ¬ EndTxnRequestFrames (commits_and_aborts_swapped_in 4) }
+    ensures not_commits_and_aborts_swapped_in_5 { ¬ EndTxnRequestFrames (commits_and_aborts_swapped_in 5) }
     ensures not_version_5_is_version_4 { ¬ EndTxnRequestFrames version_5_is_version_4 }
     ensures answered { EndTxnResponseFrames response }
     ensures not_headers_have_no_tags { ¬ EndTxnResponseFrames headers_have_no_tags }

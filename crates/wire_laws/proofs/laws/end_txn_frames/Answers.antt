@@ -18,6 +18,30 @@ pub returns-clause-not_commits_and_aborts_swapped : goal.returns-clause-not_comm
 unfolding is_utf8 chars encode nat_at int_at bool_at front_at utf8_at many_at items_at after_count_at null_or after_null_count_at varint_at null_or_count null_count_at one_less compact_null_count_at not_null required_at counted_at is_flexible api_at all_keys key_at request_body request_at
 returns-clause-not_commits_and_aborts_swapped c = search rules
 
+pub returns-clause-not_commits_and_aborts_swapped_in_0 : goal.returns-clause-not_commits_and_aborts_swapped_in_0
+unfolding is_utf8 chars encode nat_at int_at bool_at front_at utf8_at many_at items_at after_count_at null_or after_null_count_at varint_at null_or_count null_count_at one_less compact_null_count_at not_null required_at counted_at is_flexible api_at all_keys key_at request_body request_at
+returns-clause-not_commits_and_aborts_swapped_in_0 c = search rules
+
+pub returns-clause-not_commits_and_aborts_swapped_in_1 : goal.returns-clause-not_commits_and_aborts_swapped_in_1
+unfolding is_utf8 chars encode nat_at int_at bool_at front_at utf8_at many_at items_at after_count_at null_or after_null_count_at varint_at null_or_count null_count_at one_less compact_null_count_at not_null required_at counted_at is_flexible api_at all_keys key_at request_body request_at
+returns-clause-not_commits_and_aborts_swapped_in_1 c = search rules
+
+pub returns-clause-not_commits_and_aborts_swapped_in_2 : goal.returns-clause-not_commits_and_aborts_swapped_in_2
+unfolding is_utf8 chars encode nat_at int_at bool_at front_at utf8_at many_at items_at after_count_at null_or after_null_count_at varint_at null_or_count null_count_at one_less compact_null_count_at not_null required_at counted_at is_flexible api_at all_keys key_at request_body request_at
+returns-clause-not_commits_and_aborts_swapped_in_2 c = search rules
+
+pub returns-clause-not_commits_and_aborts_swapped_in_3 : goal.returns-clause-not_commits_and_aborts_swapped_in_3
+unfolding is_utf8 chars encode nat_at int_at bool_at front_at utf8_at many_at items_at after_count_at null_or after_null_count_at varint_at null_or_count null_count_at one_less compact_null_count_at not_null required_at counted_at is_flexible api_at all_keys key_at request_body request_at
+returns-clause-not_commits_and_aborts_swapped_in_3 c = search rules
+
+pub returns-clause-not_commits_and_aborts_swapped_in_4 : goal.returns-clause-not_commits_and_aborts_swapped_in_4
+unfolding is_utf8 chars encode nat_at int_at bool_at front_at utf8_at many_at items_at after_count_at null_or after_null_count_at varint_at null_or_count null_count_at one_less compact_null_count_at not_null required_at counted_at is_flexible api_at all_keys key_at request_body request_at
+returns-clause-not_commits_and_aborts_swapped_in_4 c = search rules
+
+pub returns-clause-not_commits_and_aborts_swapped_in_5 : goal.returns-clause-not_commits_and_aborts_swapped_in_5
+unfolding is_utf8 chars encode nat_at int_at bool_at front_at utf8_at many_at items_at after_count_at null_or after_null_count_at varint_at null_or_count null_count_at one_less compact_null_count_at not_null required_at counted_at is_flexible api_at all_keys key_at request_body request_at
+returns-clause-not_commits_and_aborts_swapped_in_5 c = search rules
+
 pub returns-clause-not_version_5_is_version_4 : goal.returns-clause-not_version_5_is_version_4
 unfolding is_utf8 chars encode nat_at int_at bool_at front_at utf8_at many_at items_at after_count_at null_or after_null_count_at varint_at null_or_count null_count_at one_less compact_null_count_at not_null required_at counted_at is_flexible api_at all_keys key_at request_body request_at
 returns-clause-not_version_5_is_version_4 c = search rules
