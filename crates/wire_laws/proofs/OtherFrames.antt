@@ -1,5 +1,5 @@
 -- A Produce with acks 0 that is answered is refuted.
-use Rattle.std.proofs.Common.{◌≡◌, ℕ, List, [], ◌∷◌, pos, refl, ap}
+use Rattle.std.proofs.Common.{◌≡◌, ℕ, List, [], ◌∷◌, pos}
 use Rattle.wire_types.specs.Spelling.{int_written, many_written, after_count_written}
 use Rattle.msg_admin.specs.Api.{is_flexible}
 use Rattle.msg_admin.specs.Bodies.{reply_body}

@@ -1,5 +1,5 @@
 -- A request is for the api that its number and version name, and no other rule says so.
-use Rattle.std.proofs.Common.{◌≡◌, ◌≢◌, ◌&&◌, ◌≤◌, arith, ℕ, zero, suc, ℤ, pos, negsuc, List, [], ◌∷◌, Bool, true, false, Option, Some, None, refl, sym, ap, ◌∙◌, subst, inl, inr, nat_le}
+use Rattle.std.proofs.Common.{◌≡◌, ◌≢◌, ◌&&◌, ◌≤◌, arith, ℕ, zero, suc, ℤ, pos, negsuc, Bool, true, false, Option, Some, None, refl, sym, ap, ◌∙◌, subst, inl, inr, nat_le}
 use Rattle.std.specs.Prelude.{int_le}
 use Rattle.std.specs.Option.{option_and_then}
 use Rattle.std.specs.Ordering.{int_eq}

@@ -46,7 +46,7 @@ swap_commits_in version (h, r) =
     then (h, swap_commits r)
     else (h, r)
 
--- the same in one version alone
+-- a commit is read as an abort, and the other way round, in one version alone
 abbrev pub commits_and_aborts_swapped_in : ℕ → Decoder
 commits_and_aborts_swapped_in version bytes =
     request_at bytes >>= λ x. Ok (swap_commits_in version x)
