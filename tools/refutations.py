@@ -2,8 +2,9 @@
 """Prints the table of the laws that refute wrong rules: `tools/refutations.py`; `--write` puts it into docs/PROOFS.md.
 
 A law over a rule is a predicate. A function of laws.rt has a clause that the broker's own rule has it, and beside it clauses that
-wrong ones haven't, as `¬ Law wrong`. What the law and each wrong rule say is the comment above its definition. The status is 1 where
-a law is refuted and no clause of that function says what has it, or where a comment lacks.
+wrong ones haven't, as `¬ Law wrong`, or that no other rule has it. What the law says is the comment above its definition, and so it
+is with each wrong rule, of which the table has the name. The status is 1 where a law is refuted and no clause of that function says
+what has it, or where a comment lacks.
 """
 
 import argparse
@@ -18,6 +19,7 @@ FUNCTION = re.compile(r"^pub fn (\w+)\(\)\n(.*?)^\{\}$", re.M | re.S)
 CLAUSE = re.compile(r"ensures (?:(\w+) )?\{(.*?)\}", re.S)
 USE = re.compile(r"^ghost use Rattle\.(\w+)\.specs\.([\w.]+)\.\{(.*?)\};$", re.M | re.S)
 DEFINITION = re.compile(r"((?:^-- .*\n)+)(?:abbrev |unfoldable )?pub (?:record |data )?([\w]+)", re.M)
+ONLY = "IsTheOnly"  # of a law and a rule: no other rule has the law
 REFUTED = re.compile(r"^(?:\(.*\) → )?¬ (.*)$", re.S)
 
 
@@ -27,11 +29,7 @@ class Law:
     def __init__(self, crate, function, name):
         self.crate, self.function, self.name = crate, function, name
         self.right, self.wrong = [], []
-
-    @property
-    def is_only(self):
-        """Whether it says that no other rule has the law beside it."""
-        return self.name.startswith("OnlyRuleOf")
+        self.is_only = name.startswith("OnlyRuleOf")  # whether it refutes each other rule
 
 
 def comments_of(crate, module):
@@ -63,6 +61,10 @@ def laws_of(path):
         for _, clause in CLAUSE.findall(clauses):
             refuted = REFUTED.match(clause.strip())
             name, rules = words_of(refuted[1] if refuted else clause)
+            if name == ONLY:
+                name, *rules = rules
+                own.setdefault(name, Law(crate, function, name)).is_only = True
+                continue
             law = own.setdefault(name, Law(crate, function, name))
             (law.wrong if refuted else law.right).append(rules)
         laws += [it for it in own.values() if it.wrong or it.is_only]
@@ -76,7 +78,7 @@ def row_of(law, said):
     lacks = [] if law.right else [f"{law.crate}: {law.function}: no clause says what has {law.name}"]
     names = [law.name, *(it for rules in others for it in rules)]
     lacks += [f"{law.crate}: {law.function}: no comment says what {it} is" for it in names if not said.get(it)]
-    wrong = "; ".join(f"`{it}`: {said.get(it, '')}" for rules in others for it in rules) or "every other rule"
+    wrong = ", ".join([*(f"`{it}`" for rules in others for it in rules), *["every other rule"] * law.is_only])
     rule = ", ".join(f"`{it}`" for it in right)
     return f"| `{law.crate}`, `{law.function}` | `{law.name}`: {said.get(law.name, '')} | {rule} | {wrong} |", lacks
 

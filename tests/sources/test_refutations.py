@@ -49,11 +49,16 @@ class Refutations(unittest.TestCase):
     def test_a_law_and_what_it_refutes(self):
         rows, lacks = self.rows_of("    ensures holds { Law right }\n    ensures fails { ¬ Law wrong }\n")
         self.assertEqual(lacks, [])
-        self.assertEqual(rows, ["| `small`, `a_law` | `Law`: what holds | `right` | `wrong`: one too many |"])
+        self.assertEqual(rows, ["| `small`, `a_law` | `Law`: what holds | `right` | `wrong` |"])
+
+    def test_a_law_that_no_other_rule_has(self):
+        rows, lacks = self.rows_of("    ensures holds { Law right }\n    ensures only { IsTheOnly Law right }\n")
+        self.assertEqual(lacks, [])
+        self.assertEqual(rows, ["| `small`, `a_law` | `Law`: what holds | `right` | every other rule |"])
 
     def test_a_family_is_named_by_its_rule(self):
         rows, _ = self.rows_of("    ensures holds { Law right }\n    ensures fails { (n : ℕ) → ¬ Law (wrong n) }\n")
-        self.assertEqual(rows, ["| `small`, `a_law` | `Law`: what holds | `right` | `wrong`: one too many |"])
+        self.assertEqual(rows, ["| `small`, `a_law` | `Law`: what holds | `right` | `wrong` |"])
 
     def test_a_law_that_nothing_has_is_named(self):
         _, lacks = self.rows_of("    ensures fails { ¬ Law wrong }\n")
