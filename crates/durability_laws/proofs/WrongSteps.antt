@@ -1,0 +1,217 @@
+-- The wrong steps are refuted, each by a worked history.
+use Rattle.std.proofs.Common.{◌≡◌, inl, ℕ, ℤ, pos, negsuc, true, List, [], ◌∷◌, ◌++◌, Option, Some, None, refl, sym, ap, subst, ◌∙◌, codes as bytes, arith}
+use Rattle.std.specs.Prelude.{slice_get, ◌≤ℤ◌}
+use Rattle.std.proofs.lemmas.Int.{ints}
+use Rattle.wire_types.specs.declared.error_code.ErrorCode.TheVariants as codes
+use Rattle.wire_types.specs.declared.topic.Topic.{Topic}
+use Rattle.wire_types.specs.ErrorCode.{number_of}
+use Rattle.wire_types.specs.CodedLaws.{named_or}
+use Rattle.wire_types.specs.Spelling.{int_written}
+use Rattle.wire_types.specs.Reading.{int_at, nat_at, required_at, null_count_at, varint_at, null_or_count, not_null, front_at, after_null_count_at, after_count_at, items_at, many_at, null_or, varint_limit}
+use Rattle.settings.specs.declared.settings.Settings.{Settings}
+use Rattle.record_batch.specs.Crc.{crc_after, bit_shift_by}
+use Rattle.record_batch.specs.Faults.{has_records, is_valid, first_fault}
+use Rattle.record_batch.specs.Record.{records_at}
+use Rattle.record_batch.specs.CombinatorLaws.{whole_value, sized_at, fixed_at}
+use Rattle.record_batch.specs.Batch.{BatchData, header_in}
+use Rattle.partition_log.specs.Log.{last_stable_offset}
+use Rattle.msg_data.specs.declared.isolation.Isolation.TheVariants.{ReadCommitted}
+use Rattle.msg_data.specs.declared.produce.ProduceRequest.{ProduceRequest}
+use Rattle.msg_data.specs.declared.produce.ProducedRecords.{ProducedRecords}
+use Rattle.msg_data.specs.declared.produce.ProducedOffset.{ProducedOffset}
+use Rattle.msg_data.specs.declared.fetch.FetchRequest.{FetchRequest}
+use Rattle.msg_data.specs.declared.fetch.FetchPartition.{FetchPartition}
+use Rattle.msg_data.specs.declared.fetch.FetchedRecords.{FetchedRecords}
+use Rattle.msg_txn.specs.declared.end_txn.EndTxnRequest.TheVariants as versions
+use Rattle.msg_admin.specs.declared.request.Request.TheVariants.{Produce, Fetch, InitProducerId, AddPartitionsToTxn, EndTxn}
+use Rattle.audit_trail.specs.declared.event.Event.{Event}
+use Rattle.audit_trail.specs.declared.event.Event.TheVariants.{Ask, Mark, Tick}
+use Rattle.broker_world.specs.World.{World, LogValue}
+use Rattle.broker_world.specs.First.{first_world}
+use Rattle.broker_world.specs.HandlerResult.{HandlerResult}
+use Rattle.broker_world.specs.Logs.{log_at}
+use Rattle.read_laws.specs.Fetches.{at_place, topics_fetched, IsFetched, BeginsWith}
+use Rattle.read_laws.proofs.WrongFetches.{root, holding, plain, unended}
+use Rattle.durability_laws.specs.Steps.{StepRule, world_later}
+use Rattle.durability_laws.specs.Acknowledged.{KeepsWhatIsAcknowledged, KeepsWhatStands}
+use Rattle.durability_laws.specs.Committed.{KeepsWhatIsStable, ServesWhatIsStable}
+use Rattle.durability_laws.specs.WrongSteps.{step_appending_nothing, step_telling_the_next_offset, step_keeping_the_last_batch, step_taking_transactions_out, step_taking_markers_out, step_without_the_last_batch, step_without_a_large_batch}
+
+-- ---- what stands
+
+none_stands : (before after : LogValue) (b : BatchData) → ◌≡◌ {A = Option LogValue} (Some []) (Some (before ++ b ∷ after)) → ⊥
+none_stands [] after b h = cc
+none_stands (x ∷ before) after b h = cc
+
+one_stands : (x : BatchData) (before after : LogValue) (b : BatchData) → Some (x ∷ []) ≡ Some (before ++ b ∷ after) → b ≡ x
+one_stands x [] after b h = let same : x ≡ b = cc in sym same
+one_stands x (y ∷ []) after b h = absurd (let clash : ◌≡◌ {A = LogValue} [] (b ∷ after) = cc in cc)
+one_stands x (y ∷ z ∷ before) after b h = absurd (let clash : ◌≡◌ {A = LogValue} [] (z ∷ (before ++ b ∷ after)) = cc in cc)
+
+-- ---- logs that hold two batches, or one of an open transaction
+
+second : BatchData
+second = record plain { header = record plain.header { base_offset = pos 1 } }
+
+pub stands_not_the_last_alone : ¬ KeepsWhatStands step_keeping_the_last_batch
+unfolding second
+stands_not_the_last_alone law =
+    let stands = law (holding ((plain ∷ second ∷ []) ∷ [])) (bytes "a") (pos 0) (pos 0) plain (Tick 0 ∷ []) (record { before = []; after = second ∷ []; log = refl; at = refl }) in
+    let same = one_stands second stands.before stands.after plain stands.log in
+    let clash : pos 0 ≡ pos 1 = ap (λ (b : BatchData). b.header.base_offset) same in
+    cc
+
+pub stands_in_transactions : ¬ KeepsWhatStands step_taking_transactions_out
+stands_in_transactions law =
+    let stands = law (holding ((unended ∷ []) ∷ [])) (bytes "a") (pos 0) (pos 0) unended (Mark ∷ []) (record { before = []; after = []; log = refl; at = refl }) in
+    none_stands stands.before stands.after unended stands.log
+
+-- ---- Produces of a batch of no producer
+
+abbrev hello : List ℕ
+hello = 0 ∷ 0 ∷ 0 ∷ 0 ∷ 0 ∷ 0 ∷ 0 ∷ 0 ∷ 0 ∷ 0 ∷ 0 ∷ 61 ∷ 0 ∷ 0 ∷ 0 ∷ 0 ∷ 2 ∷ 102 ∷ 54 ∷ 252 ∷ 89 ∷ 0 ∷ 0 ∷ 0 ∷ 0 ∷ 0 ∷ 0 ∷ 0 ∷ 0 ∷ 0 ∷ 0 ∷ 0 ∷ 0 ∷ 0 ∷ 0 ∷ 0 ∷ 0 ∷ 0 ∷ 0 ∷ 0 ∷ 0 ∷ 0 ∷ 0 ∷ 255 ∷ 255 ∷ 255 ∷ 255 ∷ 255 ∷ 255 ∷ 255 ∷ 255 ∷ 255 ∷ 255 ∷ 255 ∷ 255 ∷ 255 ∷ 255 ∷ 0 ∷ 0 ∷ 0 ∷ 1 ∷ 22 ∷ 0 ∷ 0 ∷ 0 ∷ 1 ∷ 10 ∷ 104 ∷ 101 ∷ 108 ∷ 108 ∷ 111 ∷ 0 ∷ []
+
+abbrev sent : ProducedRecords
+sent = record { index = pos 0; records = Some hello }
+
+abbrev part : Topic ProducedRecords
+part = record { name = bytes "a"; partitions = sent ∷ [] }
+
+abbrev request : ProduceRequest
+request = record { transactional_id = None; acks = negsuc 0; timeout = pos 0; topics = part ∷ [] }
+
+abbrev sends : Event
+sends = Ask root None (Produce request)
+
+abbrev told : ℤ → ProducedOffset
+told offset = record { index = pos 0; error = codes.None; base_offset = offset; log_append_time = negsuc 0 }
+
+pub acknowledged_not_dropped : ¬ KeepsWhatIsAcknowledged step_appending_nothing
+unfolding crc_after bit_shift_by header_in has_records is_valid first_fault records_at whole_value sized_at fixed_at named_or int_at nat_at required_at null_count_at varint_at null_or_count not_null front_at after_null_count_at after_count_at items_at many_at null_or varint_limit int_written number_of
+acknowledged_not_dropped law =
+    let stored = law (holding ([] ∷ [])) root None request 0 0 part sent (told (pos 0)) [] refl refl refl refl in
+    none_stands stored.stands.before stored.stands.after stored.batch stored.stands.log
+
+-- the batch that stands first, and the others
+abbrev first_of : Option LogValue → BatchData
+first_of None = plain
+first_of (Some []) = plain
+first_of (Some (b ∷ rest)) = b
+
+abbrev rest_of : Option LogValue → LogValue
+rest_of None = []
+rest_of (Some []) = []
+rest_of (Some (b ∷ rest)) = rest
+
+abbrev log_in : World → Option LogValue
+log_in w = log_at w.topics (bytes "a") (pos 0)
+
+abbrev base_of : Option LogValue → ℤ
+base_of o = (first_of o).header.base_offset
+
+pub acknowledged_at_its_offset : ¬ KeepsWhatIsAcknowledged step_telling_the_next_offset
+unfolding crc_after bit_shift_by header_in has_records is_valid first_fault records_at whole_value sized_at fixed_at named_or int_at nat_at required_at null_count_at varint_at null_or_count not_null front_at after_null_count_at after_count_at items_at many_at null_or varint_limit int_written number_of
+acknowledged_at_its_offset law =
+    let w = world_later step_telling_the_next_offset (holding ([] ∷ [])) (sends ∷ []) in
+    let stored = law (holding ([] ∷ [])) root None request 0 0 part sent (told (pos 1)) [] refl refl refl refl in
+    let same = one_stands (first_of (log_in w)) stored.stands.before stored.stands.after stored.batch stored.stands.log in
+    let clash : pos 0 ≡ pos 1 = sym (ap (λ (b : BatchData). b.header.base_offset) same) ∙ stored.stands.at in
+    cc
+
+pub acknowledged_not_the_last_alone : ¬ KeepsWhatIsAcknowledged step_keeping_the_last_batch
+unfolding crc_after bit_shift_by header_in has_records is_valid first_fault records_at whole_value sized_at fixed_at named_or int_at nat_at required_at null_count_at varint_at null_or_count not_null front_at after_null_count_at after_count_at items_at many_at null_or varint_limit int_written number_of
+acknowledged_not_the_last_alone law =
+    let w = world_later step_keeping_the_last_batch (holding ([] ∷ [])) (sends ∷ sends ∷ Tick 0 ∷ []) in
+    let stored = law (holding ([] ∷ [])) root None request 0 0 part sent (told (pos 0)) (sends ∷ Tick 0 ∷ []) refl refl refl refl in
+    let same = one_stands (first_of (log_in w)) stored.stands.before stored.stands.after stored.batch stored.stands.log in
+    let clash : pos 1 ≡ pos 0 = sym (ap (λ (b : BatchData). b.header.base_offset) same) ∙ stored.stands.at in
+    cc
+
+-- ---- from settings on
+
+abbrev s : Settings
+s = record { node_id = pos 0; host = bytes "h"; port = pos 9092; supers = bytes "User:root" ∷ []; trail_limit = pos 1000; max_batch = pos 1048576; max_txn_timeout = pos 900000; topics = record { name = bytes "a"; partitions = pos 1 } ∷ []; acls = [] }
+
+abbrev wants : ℤ → FetchPartition
+wants most = record { index = pos 0; offset = pos 0; max_bytes = most }
+
+abbrev fetches : ℤ → FetchRequest
+fetches most = record { replica = negsuc 0; max_wait = pos 0; min_bytes = pos 1; max_bytes = most; isolation = ReadCommitted; topics = record { name = bytes "a"; partitions = wants most ∷ [] } ∷ [] }
+
+abbrev bytes_in : Option FetchedRecords → List ℕ
+bytes_in None = []
+bytes_in (Some answer) = answer.records
+
+begins : (o : HandlerResult) (front found : List ℕ) → IsFetched o 0 0 (BeginsWith front) → bytes_in (at_place (topics_fetched o.reply) 0 0) ≡ found → BeginsWith front found
+begins o front found is same = subst (BeginsWith front) (sym (ap bytes_in is.told) ∙ same) is.records
+
+abbrev after_one : StepRule → World
+after_one rule = world_later rule (first_world s) (sends ∷ [])
+
+no_bytes : BeginsWith hello [] → ⊥
+no_bytes (rest, is) = cc
+
+pub served_also_last : ¬ ServesWhatIsStable step_without_the_last_batch
+unfolding crc_after bit_shift_by header_in has_records is_valid first_fault records_at whole_value sized_at fixed_at named_or int_at nat_at required_at null_count_at varint_at null_or_count not_null front_at after_null_count_at after_count_at items_at many_at null_or varint_limit int_written number_of
+served_also_last law =
+    let w = after_one step_without_the_last_batch in
+    let b = first_of (log_in w) in
+    let answer = law s (sends ∷ []) [] (bytes "a") (pos 0) b (record { before = []; after = []; log = refl; below = record { le = tt } }) w refl root None (fetches (pos 1000)) 0 0 (wants (pos 1000))
+    (record { topic = record { name = bytes "a"; partitions = wants (pos 1000) ∷ [] }; named = refl; asked = refl; same_name = refl; same_index = refl; may_read = refl; from = record { le = tt }; to = record { lt = tt } }) (inl refl)
+    in
+    no_bytes (begins (step_without_the_last_batch w (Ask root None (Fetch (fetches (pos 1000))))) hello [] answer refl)
+
+pub served_also_large : ¬ ServesWhatIsStable step_without_a_large_batch
+unfolding crc_after bit_shift_by header_in has_records is_valid first_fault records_at whole_value sized_at fixed_at named_or int_at nat_at required_at null_count_at varint_at null_or_count not_null front_at after_null_count_at after_count_at items_at many_at null_or varint_limit int_written number_of
+served_also_large law =
+    let w = after_one step_without_a_large_batch in
+    let b = first_of (log_in w) in
+    let answer = law s (sends ∷ []) [] (bytes "a") (pos 0) b (record { before = []; after = []; log = refl; below = record { le = tt } }) w refl root None (fetches (pos 10)) 0 0 (wants (pos 10))
+    (record { topic = record { name = bytes "a"; partitions = wants (pos 10) ∷ [] }; named = refl; asked = refl; same_name = refl; same_index = refl; may_read = refl; from = record { le = tt }; to = record { lt = tt } }) (inl refl)
+    in
+    no_bytes (begins (step_without_a_large_batch w (Ask root None (Fetch (fetches (pos 10))))) hello [] answer refl)
+
+-- two batches, of which a tick leaves the second
+abbrev after_two : World
+after_two = world_later step_keeping_the_last_batch (first_world s) (sends ∷ sends ∷ [])
+
+abbrev eighth : List ℕ → Option ℕ
+eighth l = slice_get l 7
+
+pub served_not_the_last_alone : ¬ ServesWhatIsStable step_keeping_the_last_batch
+unfolding crc_after bit_shift_by header_in has_records is_valid first_fault records_at whole_value sized_at fixed_at named_or int_at nat_at required_at null_count_at varint_at null_or_count not_null front_at after_null_count_at after_count_at items_at many_at null_or varint_limit int_written number_of
+served_not_the_last_alone law =
+    let w = world_later step_keeping_the_last_batch after_two (Tick 0 ∷ []) in
+    let b = first_of (log_in after_two) in
+    let answer = law s (sends ∷ sends ∷ []) (Tick 0 ∷ []) (bytes "a") (pos 0) b (record { before = []; after = rest_of (log_in after_two); log = refl; below = record { le = tt } }) w refl root None (fetches (pos 1000)) 0 0 (wants (pos 1000))
+    (record { topic = record { name = bytes "a"; partitions = wants (pos 1000) ∷ [] }; named = refl; asked = refl; same_name = refl; same_index = refl; may_read = refl; from = record { le = tt }; to = record { lt = tt } }) (inl refl)
+    in
+    let found = bytes_in (at_place (topics_fetched (step_keeping_the_last_batch w (Ask root None (Fetch (fetches (pos 1000))))).reply) 0 0) in
+    let front = begins (step_keeping_the_last_batch w (Ask root None (Fetch (fetches (pos 1000))))) hello found answer refl in
+    let clash : ◌≡◌ {A = Option ℕ} (Some 1) (Some 0) = ap eighth front.1 in
+    cc
+
+-- ---- a transaction that is committed
+
+abbrev commits : List Event
+commits =
+    Ask root None (InitProducerId (record { transactional_id = Some (bytes "t"); timeout = pos 60000 }))
+    ∷ Ask root None (AddPartitionsToTxn (record { transactional_id = bytes "t"; producer = pos 0; epoch = pos 0; topics = record { name = bytes "a"; partitions = pos 0 ∷ [] } ∷ [] }))
+    ∷ Ask root None (Produce (record { transactional_id = Some (bytes "t"); acks = negsuc 0; timeout = pos 0; topics = record { name = bytes "a"; partitions = record { index = pos 0; records = Some (0 ∷ 0 ∷ 0 ∷ 0 ∷ 0 ∷ 0 ∷ 0 ∷ 0 ∷ 0 ∷ 0 ∷ 0 ∷ 61 ∷ 0 ∷ 0 ∷ 0 ∷ 0 ∷ 2 ∷ 167 ∷ 236 ∷ 244 ∷ 135 ∷ 0 ∷ 16 ∷ 0 ∷ 0 ∷ 0 ∷ 0 ∷ 0 ∷ 0 ∷ 0 ∷ 0 ∷ 0 ∷ 0 ∷ 0 ∷ 0 ∷ 0 ∷ 0 ∷ 0 ∷ 0 ∷ 0 ∷ 0 ∷ 0 ∷ 0 ∷ 0 ∷ 0 ∷ 0 ∷ 0 ∷ 0 ∷ 0 ∷ 0 ∷ 0 ∷ 0 ∷ 0 ∷ 0 ∷ 0 ∷ 0 ∷ 0 ∷ 0 ∷ 0 ∷ 0 ∷ 1 ∷ 22 ∷ 0 ∷ 0 ∷ 0 ∷ 1 ∷ 10 ∷ 104 ∷ 101 ∷ 108 ∷ 108 ∷ 111 ∷ 0 ∷ []) } ∷ [] } ∷ [] }))
+    ∷ Ask root None (EndTxn (versions.Version1 (record { transactional_id = bytes "t"; producer = pos 0; epoch = pos 0; committed = true })))
+    ∷ Mark
+    ∷ []
+
+abbrev stable_in : Option LogValue → ℤ
+stable_in None = pos 0
+stable_in (Some log) = last_stable_offset log
+
+pub stable_also_markers : ¬ KeepsWhatIsStable step_taking_markers_out
+unfolding crc_after bit_shift_by header_in has_records is_valid first_fault records_at whole_value sized_at fixed_at named_or int_at nat_at required_at null_count_at varint_at null_or_count not_null front_at after_null_count_at after_count_at items_at many_at null_or varint_limit int_written number_of
+stable_also_markers law =
+    let w = world_later step_taking_markers_out (first_world s) commits in
+    let b = first_of (log_in w) in
+    let stable = law s commits (Tick 0 ∷ []) (bytes "a") (pos 0) b (record { before = []; after = rest_of (log_in w); log = refl; below = record { le = tt } }) in
+    let ends : pos 0 ≡ last_stable_offset (stable.before ++ b ∷ stable.after) = ap stable_in stable.log in
+    let below : pos 1 ≤ℤ pos 0 = subst (λ (n : ℤ). pos 1 ≤ℤ n) (sym ends) stable.below in
+    omega (arith, ints)

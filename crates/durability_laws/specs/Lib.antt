@@ -1,0 +1,5 @@
+pub mod Steps
+pub mod Acknowledged
+pub mod Committed
+pub mod Offsets
+pub mod WrongSteps
