@@ -24,14 +24,16 @@ use Rattle.broker_world.specs.First.{non_negative, first_world}
 use Rattle.broker_world.specs.Logs.{log_at}
 use Rattle.broker_world.specs.Markers.{marker_batch}
 use Rattle.api_dispatch.specs.Step.{outcome, step, world_after_events}
-use Rattle.msg_admin.specs.declared.request.Request.TheVariants.{Fetch}
+use Rattle.msg_admin.specs.declared.request.Request.TheVariants.{Produce, Fetch}
 use Rattle.read_laws.specs.Fetches.{topics_fetched, records_before, IsFetched, BeginsWith, HasRoom, MayRead, IsReadable, IsNextBatch, level_end, HaveBytes, LogsHaveBytes}
 use Rattle.read_laws.proofs.Fetches.{serves_the_next_batch}
 use Rattle.api_laws.proofs.EachLog.{Stays, each_log}
 use Rattle.broker_laws.proofs.LogsGrow.{reached_grows}
 use Rattle.durability_laws.specs.Steps.{world_later}
+use Rattle.durability_laws.specs.Acknowledged.{IsStored}
 use Rattle.durability_laws.specs.Committed.{IsStable, AsksFor, KeepsWhatIsStable, ServesWhatIsStable}
-use Rattle.durability_laws.proofs.Acknowledged.{later_is}
+use Rattle.durability_laws.specs.ReadBack.{AsksFrom, IsVisible, IsReadBack, ReadsWhatIsAcknowledged}
+use Rattle.durability_laws.proofs.Acknowledged.{later_is, keeps_what_is_acknowledged}
 
 -- ---- offsets rise in the logs that events reach, and batches have bytes
 
@@ -189,60 +191,124 @@ below_level : (level : Isolation) (n : ℤ) (log : LogValue) → IsOrdered (pos 
 below_level ReadUncommitted n log h le = let end = stable_below_end log h in omega (arith, ints)
 below_level ReadCommitted n log h le = le
 
-module _ (s : Settings) (es : List Event) (caller : Caller) (r : FetchRequest) (i j : ℕ) (name : List ℕ) (index : ℤ) (b : BatchData) (p : FetchPartition) where
+end_after : (low : ℤ) (before after : LogValue) (b : BatchData) → IsOrdered low (before ++ b ∷ after) → next_offset b ≤ℤ end_from low (before ++ b ∷ after)
+end_after low [] after b h = end_above (next_offset b) after h.1
+end_after low (x ∷ before) after b h = end_after (next_offset x) before after b h.1
+
+-- it has at least one offset
+pub one_offset : (low : ℤ) (before after : LogValue) (b : BatchData) → IsOrdered low (before ++ b ∷ after) → b.header.base_offset <ℤ next_offset b
+one_offset low [] after b h = let long = h.0.1 in omega (arith, ints)
+one_offset low (x ∷ before) after b h = one_offset (next_offset x) before after b h.1
+
+pub rises_in : (s : Settings) (es : List Event) (name : List ℕ) (index : ℤ) (log : LogValue) → log_at (world_after_events (first_world s) es).topics name index ≡ Some log → IsOrdered (pos 0) log
+rises_in s es name index log there = each_log s (IsOrdered (pos 0)) (rising (non_negative s.max_batch)) es name index log there
+
+module _ (s : Settings) (es : List Event) (caller : Caller) (client : Option (List ℕ)) (r : FetchRequest) (i j : ℕ) (name : List ℕ) (index : ℤ) (b : BatchData) (p : FetchPartition) where
   abbrev w : World
   w = world_after_events (first_world s) es
 
-  module _ (is : IsStable w name index b) (asks : AsksFor w caller r i j name index b p) where
+  module _ (before after : LogValue) (there : log_at w.topics name index ≡ Some (before ++ b ∷ after)) (asks : AsksFor w caller r i j name index b p) where
     abbrev log : LogValue
-    log = is.before ++ b ∷ is.after
+    log = before ++ b ∷ after
 
     rises : IsOrdered (pos 0) log
-    rises = each_log s (IsOrdered (pos 0)) (rising (non_negative s.max_batch)) es name index log is.log
+    rises = rises_in s es name index log there
 
     have : LogsHaveBytes w.topics
-    have n k l there = each_log s HaveBytes (having (non_negative s.max_batch)) es n k l there
+    have n k l found = each_log s HaveBytes (having (non_negative s.max_batch)) es n k l found
 
     from_zero : pos 0 ≤ℤ p.offset
     from_zero =
-        let start = end_above (pos 0) is.before (ordered_front (pos 0) is.before (b ∷ is.after) rises) in
-        let at = ordered_at (pos 0) is.before is.after b rises in
+        let start = end_above (pos 0) before (ordered_front (pos 0) before (b ∷ after) rises) in
+        let at = ordered_at (pos 0) before after b rises in
         let from = asks.from in
         omega (arith, ints)
 
     to_end : p.offset ≤ℤ end_of log
-    to_end = let to = asks.to in let below = is.below in let end = stable_below_end log rises in omega (arith, ints)
+    to_end = let to = asks.to in let end = end_after (pos 0) before after b rises in omega (arith, ints)
 
-    pub readable : IsReadable w caller r i j p log
+    readable : IsReadable w caller r i j p log
     readable = record {
       topic = asks.topic;
       named = asks.named;
       asked = asks.asked;
       may_read = subst (MayRead w caller) (sym asks.same_name) asks.may_read;
-      there = ap (λ (n : List ℕ). log_at w.topics n p.index) asks.same_name ∙ ap (log_at w.topics name) asks.same_index ∙ is.log;
+      there = ap (λ (n : List ℕ). log_at w.topics n p.index) asks.same_name ∙ ap (log_at w.topics name) asks.same_index ∙ there;
       from_start = from_zero;
       to_end = to_end;
     }
 
-    pub next : (level : Isolation) → IsNextBatch level log p.offset b
-    next level = record {
-      before = is.before;
-      after = is.after;
+    next : next_offset b ≤ℤ level_end r.isolation log → IsNextBatch r.isolation log p.offset b
+    next whole = record {
+      before = before;
+      after = after;
       parts = refl;
-      passed = all_before (pos 0) p.offset is.before is.after b rises asks.from;
+      passed = all_before (pos 0) p.offset before after b rises asks.from;
       reaches = asks.to;
-      whole = below_level level (next_offset b) log rises is.below;
+      whole = whole;
     }
+
+    pub served : next_offset b ≤ℤ level_end r.isolation log → HasRoom r p (length (records_before (topics_fetched (outcome w (Ask caller client (Fetch r))).reply) i j)) (length b.bytes) → IsFetched (outcome w (Ask caller client (Fetch r))) i j (BeginsWith b.bytes)
+    served whole room = serves_the_next_batch w caller r i j p log b have readable (next whole) room
 
 -- so each Fetch that asks for it is answered in a world
 abbrev Serves : List ℕ → ℤ → BatchData → Caller → Option (List ℕ) → FetchRequest → ℕ → ℕ → FetchPartition → World → Type 0
 Serves name index b caller client r i j p v =
     AsksFor v caller r i j name index b p → HasRoom r p (length (records_before (topics_fetched (outcome v (Ask caller client (Fetch r))).reply) i j)) (length b.bytes) → IsFetched (outcome v (Ask caller client (Fetch r))) i j (BeginsWith b.bytes)
 
+pub serves_stable : (s : Settings) (es : List Event) (name : List ℕ) (index : ℤ) (b : BatchData) → IsStable (world_after_events (first_world s) es) name index b
+    → (caller : Caller) (client : Option (List ℕ)) (r : FetchRequest) (i j : ℕ) (p : FetchPartition) → Serves name index b caller client r i j p (world_after_events (first_world s) es)
+serves_stable s es name index b is caller client r i j p asks room =
+    let log : LogValue = is.before ++ b ∷ is.after in
+    served s es caller client r i j name index b p is.before is.after is.log asks (below_level r.isolation (next_offset b) log (rises_in s es name index log is.log) is.below) room
+
 pub serves_what_is_stable : ServesWhatIsStable outcome
 serves_what_is_stable s events later name index b is v leads caller client r i j p =
-    let es : List Event = events ++ later in
     let now = stable_later s events later name index b (subst (λ (x : World). IsStable x name index b) (later_is (first_world s) events) is) in
-    subst (Serves name index b caller client r i j p) (sym (leads ∙ later_reached s events later))
-    (λ asks room. serves_the_next_batch (w s es caller r i j name index b p) caller r i j p (log s es caller r i j name index b p now asks) b (have s es caller r i j name index b p now asks)
-    (readable s es caller r i j name index b p now asks) (next s es caller r i j name index b p now asks r.isolation) room)
+    subst (Serves name index b caller client r i j p) (sym (leads ∙ later_reached s events later)) (serves_stable s (events ++ later) name index b now caller client r i j p)
+
+-- ---- what was acknowledged is read back
+
+module _ (s : Settings) (es : List Event) (name : List ℕ) (index offset : ℤ) (records : Option (List ℕ)) (stored : IsStored (world_after_events (first_world s) es) name index offset records) where
+  abbrev v : World
+  v = world_after_events (first_world s) es
+
+  abbrev batch : BatchData
+  batch = stored.batch
+
+  from_it : (caller : Caller) (r : FetchRequest) (i j : ℕ) (p : FetchPartition) → AsksFrom v caller r i j name index offset p → AsksFor v caller r i j name index batch p
+  from_it caller r i j p asks =
+      let base : batch.header.base_offset ≡ p.offset = stored.stands.at ∙ sym asks.from in
+      let long = one_offset (pos 0) stored.stands.before stored.stands.after batch (rises_in s es name index (stored.stands.before ++ batch ∷ stored.stands.after) stored.stands.log) in
+      record {
+        topic = asks.topic;
+        named = asks.named;
+        asked = asks.asked;
+        same_name = asks.same_name;
+        same_index = asks.same_index;
+        may_read = asks.may_read;
+        from = subst (λ (n : ℤ). batch.header.base_offset ≤ℤ n) base (le_refl batch.header.base_offset);
+        to = subst (λ (n : ℤ). n <ℤ next_offset batch) base long;
+      }
+
+  by_level : (caller : Caller) (client : Option (List ℕ)) (r : FetchRequest) (i j : ℕ) (p : FetchPartition) (level : Isolation) → r.isolation ≡ level → IsVisible level v name index batch → Serves name index batch caller client r i j p v
+  by_level caller client r i j p ReadCommitted is visible = serves_stable s es name index batch visible caller client r i j p
+  by_level caller client r i j p ReadUncommitted is visible = λ asks room.
+      let log : LogValue = stored.stands.before ++ batch ∷ stored.stands.after in
+      let end = end_after (pos 0) stored.stands.before stored.stands.after batch (rises_in s es name index log stored.stands.log) in
+      served s es caller client r i j name index batch p stored.stands.before stored.stands.after stored.stands.log asks (subst (λ (level : Isolation). next_offset batch ≤ℤ level_end level log) (sym is) end) room
+
+  pub read_back : IsReadBack outcome v name index offset records
+  read_back = record {
+    stored = stored;
+    read = λ caller client r i j p asks visible. by_level caller client r i j p r.isolation refl visible (from_it caller r i j p asks);
+  }
+
+pub reads_what_is_acknowledged : ReadsWhatIsAcknowledged outcome
+reads_what_is_acknowledged s events writer client r i j t p answer later h k told code v leads =
+    let w = world_later outcome (first_world s) events in
+    let e = Ask writer client (Produce r) in
+    let es : List Event = events ++ (e ∷ later) in
+    let reached : v ≡ world_after_events (first_world s) es = leads ∙ later_reached s events (e ∷ later) in
+    let stored = subst (λ (x : World). IsStored x t.name p.index answer.base_offset p.records) (sym leads ∙ reached) (keeps_what_is_acknowledged w writer client r i j t p answer later h k told code) in
+    subst (λ (x : World). IsReadBack outcome x t.name p.index answer.base_offset p.records) (sym reached) (read_back s es t.name p.index answer.base_offset p.records stored)

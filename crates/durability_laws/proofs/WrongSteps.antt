@@ -1,5 +1,5 @@
 -- The wrong steps are refuted, each by a worked history.
-use Rattle.std.proofs.Common.{◌≡◌, inl, ℕ, ℤ, pos, negsuc, true, List, [], ◌∷◌, ◌++◌, Option, Some, None, refl, sym, ap, subst, ◌∙◌, codes as bytes, arith}
+use Rattle.std.proofs.Common.{◌≡◌, Bool, true, false, inl, ℕ, ℤ, pos, negsuc, List, [], ◌∷◌, ◌++◌, Option, Some, None, refl, sym, ap, subst, ◌∙◌, codes as bytes, arith}
 use Rattle.std.specs.Prelude.{slice_get, ◌≤ℤ◌}
 use Rattle.std.proofs.lemmas.Int.{ints}
 use Rattle.wire_types.specs.declared.error_code.ErrorCode.TheVariants as codes
@@ -15,7 +15,8 @@ use Rattle.record_batch.specs.Record.{records_at}
 use Rattle.record_batch.specs.CombinatorLaws.{whole_value, sized_at, fixed_at}
 use Rattle.record_batch.specs.Batch.{BatchData, header_in}
 use Rattle.partition_log.specs.Log.{last_stable_offset}
-use Rattle.msg_data.specs.declared.isolation.Isolation.TheVariants.{ReadCommitted}
+use Rattle.msg_data.specs.declared.isolation.Isolation.{Isolation}
+use Rattle.msg_data.specs.declared.isolation.Isolation.TheVariants.{ReadUncommitted, ReadCommitted}
 use Rattle.msg_data.specs.declared.produce.ProduceRequest.{ProduceRequest}
 use Rattle.msg_data.specs.declared.produce.ProducedRecords.{ProducedRecords}
 use Rattle.msg_data.specs.declared.produce.ProducedOffset.{ProducedOffset}
@@ -35,7 +36,8 @@ use Rattle.read_laws.proofs.WrongFetches.{root, holding, plain, unended}
 use Rattle.durability_laws.specs.Steps.{StepRule, world_later}
 use Rattle.durability_laws.specs.Acknowledged.{KeepsWhatIsAcknowledged, KeepsWhatStands}
 use Rattle.durability_laws.specs.Committed.{KeepsWhatIsStable, ServesWhatIsStable}
-use Rattle.durability_laws.specs.WrongSteps.{step_appending_nothing, step_telling_the_next_offset, step_keeping_the_last_batch, step_taking_transactions_out, step_taking_markers_out, step_without_the_last_batch, step_without_a_large_batch}
+use Rattle.durability_laws.specs.ReadBack.{ReadsWhatIsAcknowledged}
+use Rattle.durability_laws.specs.WrongSteps.{step_fetching_as_committed, step_appending_nothing, step_telling_the_next_offset, step_keeping_the_last_batch, step_taking_transactions_out, step_taking_markers_out, step_without_the_last_batch, step_without_a_large_batch}
 
 -- ---- what stands
 
@@ -193,11 +195,28 @@ served_not_the_last_alone law =
 
 -- ---- a transaction that is committed
 
-abbrev commits : List Event
-commits =
+abbrev of_transaction : List ℕ
+of_transaction = 0 ∷ 0 ∷ 0 ∷ 0 ∷ 0 ∷ 0 ∷ 0 ∷ 0 ∷ 0 ∷ 0 ∷ 0 ∷ 61 ∷ 0 ∷ 0 ∷ 0 ∷ 0 ∷ 2 ∷ 167 ∷ 236 ∷ 244 ∷ 135 ∷ 0 ∷ 16 ∷ 0 ∷ 0 ∷ 0 ∷ 0 ∷ 0 ∷ 0 ∷ 0 ∷ 0 ∷ 0 ∷ 0 ∷ 0 ∷ 0 ∷ 0 ∷ 0 ∷ 0 ∷ 0 ∷ 0 ∷ 0 ∷ 0 ∷ 0 ∷ 0 ∷ 0 ∷ 0 ∷ 0 ∷ 0 ∷ 0 ∷ 0 ∷ 0 ∷ 0 ∷ 0 ∷ 0 ∷ 0 ∷ 0 ∷ 0 ∷ 0 ∷ 0 ∷ 0 ∷ 1 ∷ 22 ∷ 0 ∷ 0 ∷ 0 ∷ 1 ∷ 10 ∷ 104 ∷ 101 ∷ 108 ∷ 108 ∷ 111 ∷ 0 ∷ []
+
+abbrev opens : List Event
+opens =
     Ask root None (InitProducerId (record { transactional_id = Some (bytes "t"); timeout = pos 60000 }))
     ∷ Ask root None (AddPartitionsToTxn (record { transactional_id = bytes "t"; producer = pos 0; epoch = pos 0; topics = record { name = bytes "a"; partitions = pos 0 ∷ [] } ∷ [] }))
-    ∷ Ask root None (Produce (record { transactional_id = Some (bytes "t"); acks = negsuc 0; timeout = pos 0; topics = record { name = bytes "a"; partitions = record { index = pos 0; records = Some (0 ∷ 0 ∷ 0 ∷ 0 ∷ 0 ∷ 0 ∷ 0 ∷ 0 ∷ 0 ∷ 0 ∷ 0 ∷ 61 ∷ 0 ∷ 0 ∷ 0 ∷ 0 ∷ 2 ∷ 167 ∷ 236 ∷ 244 ∷ 135 ∷ 0 ∷ 16 ∷ 0 ∷ 0 ∷ 0 ∷ 0 ∷ 0 ∷ 0 ∷ 0 ∷ 0 ∷ 0 ∷ 0 ∷ 0 ∷ 0 ∷ 0 ∷ 0 ∷ 0 ∷ 0 ∷ 0 ∷ 0 ∷ 0 ∷ 0 ∷ 0 ∷ 0 ∷ 0 ∷ 0 ∷ 0 ∷ 0 ∷ 0 ∷ 0 ∷ 0 ∷ 0 ∷ 0 ∷ 0 ∷ 0 ∷ 0 ∷ 0 ∷ 0 ∷ 0 ∷ 1 ∷ 22 ∷ 0 ∷ 0 ∷ 0 ∷ 1 ∷ 10 ∷ 104 ∷ 101 ∷ 108 ∷ 108 ∷ 111 ∷ 0 ∷ []) } ∷ [] } ∷ [] }))
+    ∷ []
+
+abbrev sent_open : ProducedRecords
+sent_open = record { index = pos 0; records = Some of_transaction }
+
+abbrev part_open : Topic ProducedRecords
+part_open = record { name = bytes "a"; partitions = sent_open ∷ [] }
+
+abbrev request_open : ProduceRequest
+request_open = record { transactional_id = Some (bytes "t"); acks = negsuc 0; timeout = pos 0; topics = part_open ∷ [] }
+
+abbrev commits : List Event
+commits =
+    opens
+    ++ Ask root None (Produce request_open)
     ∷ Ask root None (EndTxn (versions.Version1 (record { transactional_id = bytes "t"; producer = pos 0; epoch = pos 0; committed = true })))
     ∷ Mark
     ∷ []
@@ -215,3 +234,52 @@ stable_also_markers law =
     let ends : pos 0 ≡ last_stable_offset (stable.before ++ b ∷ stable.after) = ap stable_in stable.log in
     let below : pos 1 ≤ℤ pos 0 = subst (λ (n : ℤ). pos 1 ≤ℤ n) (sym ends) stable.below in
     omega (arith, ints)
+
+-- ---- what was acknowledged is read back
+
+no_front : (front : List ℕ) → BeginsWith front [] → front ≡ []
+no_front [] h = refl
+no_front (x ∷ xs) (rest, is) = absurd cc
+
+abbrev some : List ℕ → Bool
+some [] = false
+some (x ∷ xs) = true
+
+-- a batch that has bytes, and stands alone, is not read
+unread : (x : BatchData) (before after : LogValue) (b : BatchData) → some x.bytes ≡ true → Some (x ∷ []) ≡ Some (before ++ b ∷ after) → BeginsWith b.bytes [] → ⊥
+unread x before after b has stands front =
+    let none : x.bytes ≡ [] = ap (λ (y : BatchData). y.bytes) (sym (one_stands x before after b stands)) ∙ no_front b.bytes front in
+    let clash : true ≡ false = sym has ∙ ap some none in
+    cc
+
+abbrev reads : Isolation → ℤ → FetchRequest
+reads level most = record (fetches most) { isolation = level }
+
+pub read_also_last : ¬ ReadsWhatIsAcknowledged step_without_the_last_batch
+unfolding crc_after bit_shift_by header_in has_records is_valid first_fault records_at whole_value sized_at fixed_at named_or int_at nat_at required_at null_count_at varint_at null_or_count not_null front_at after_null_count_at after_count_at items_at many_at null_or varint_limit int_written number_of
+read_also_last law =
+    let v = after_one step_without_the_last_batch in
+    let back = law s [] root None request 0 0 part sent (told (pos 0)) [] refl refl refl refl v refl in
+    let answer = back.read root None (reads ReadUncommitted (pos 1000)) 0 0 (wants (pos 1000))
+    (record { topic = record { name = bytes "a"; partitions = wants (pos 1000) ∷ [] }; named = refl; asked = refl; same_name = refl; same_index = refl; may_read = refl; from = refl }) tt (inl refl)
+    in
+    unread (first_of (log_in v)) back.stored.stands.before back.stored.stands.after back.stored.batch refl back.stored.stands.log
+    (begins (step_without_the_last_batch v (Ask root None (Fetch (reads ReadUncommitted (pos 1000))))) back.stored.batch.bytes [] answer refl)
+
+pub read_also_uncommitted : ¬ ReadsWhatIsAcknowledged step_fetching_as_committed
+unfolding crc_after bit_shift_by header_in has_records is_valid first_fault records_at whole_value sized_at fixed_at named_or int_at nat_at required_at null_count_at varint_at null_or_count not_null front_at after_null_count_at after_count_at items_at many_at null_or varint_limit int_written number_of
+read_also_uncommitted law =
+    let v = world_later step_fetching_as_committed (first_world s) (opens ++ Ask root None (Produce request_open) ∷ []) in
+    let back = law s opens root None request_open 0 0 part_open sent_open (told (pos 0)) [] refl refl refl refl v refl in
+    let answer = back.read root None (reads ReadUncommitted (pos 1000)) 0 0 (wants (pos 1000))
+    (record { topic = record { name = bytes "a"; partitions = wants (pos 1000) ∷ [] }; named = refl; asked = refl; same_name = refl; same_index = refl; may_read = refl; from = refl }) tt (inl refl)
+    in
+    unread (first_of (log_in v)) back.stored.stands.before back.stored.stands.after back.stored.batch refl back.stored.stands.log
+    (begins (step_fetching_as_committed v (Ask root None (Fetch (reads ReadUncommitted (pos 1000))))) back.stored.batch.bytes [] answer refl)
+
+pub read_not_dropped : ¬ ReadsWhatIsAcknowledged step_appending_nothing
+unfolding crc_after bit_shift_by header_in has_records is_valid first_fault records_at whole_value sized_at fixed_at named_or int_at nat_at required_at null_count_at varint_at null_or_count not_null front_at after_null_count_at after_count_at items_at many_at null_or varint_limit int_written number_of
+read_not_dropped law =
+    let v = after_one step_appending_nothing in
+    let back = law s [] root None request 0 0 part sent (told (pos 0)) [] refl refl refl refl v refl in
+    none_stands back.stored.stands.before back.stored.stands.after back.stored.batch back.stored.stands.log

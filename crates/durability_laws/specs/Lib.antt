@@ -1,5 +1,6 @@
 pub mod Steps
 pub mod Acknowledged
 pub mod Committed
+pub mod ReadBack
 pub mod Offsets
 pub mod WrongSteps

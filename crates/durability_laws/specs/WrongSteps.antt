@@ -14,7 +14,7 @@ use Rattle.group_offsets.specs.declared.group.Group.{Group}
 use Rattle.broker_world.specs.World.{TopicValue, LogValue}
 use Rattle.broker_world.specs.HandlerResult.{HandlerResult}
 use Rattle.api_dispatch.specs.Step.{outcome}
-use Rattle.read_laws.specs.WrongFetches.{fetch_without_a_large_batch, fetch_without_the_last_batch}
+use Rattle.read_laws.specs.WrongFetches.{fetch_as_committed, fetch_without_a_large_batch, fetch_without_the_last_batch}
 use Rattle.durability_laws.specs.Steps.{StepRule}
 
 -- ---- Produce
@@ -91,6 +91,11 @@ step_without_the_last_batch w e = outcome w e
 abbrev pub step_without_a_large_batch : StepRule
 step_without_a_large_batch w (Ask caller client (Fetch r)) = fetch_without_a_large_batch w caller r
 step_without_a_large_batch w e = outcome w e
+
+-- wrong: the isolation level isn't looked at, and read_uncommitted is told what read_committed is
+abbrev pub step_fetching_as_committed : StepRule
+step_fetching_as_committed w (Ask caller client (Fetch r)) = fetch_as_committed w caller r
+step_fetching_as_committed w e = outcome w e
 
 -- ---- offsets
 

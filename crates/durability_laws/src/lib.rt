@@ -3,4 +3,7 @@
 
 mod laws;
 
-pub use laws::{acknowledged_records_stay, committed_offsets_stay, committed_records_stay};
+pub use laws::{
+    acknowledged_records_are_read, acknowledged_records_stay, committed_offsets_stay,
+    committed_records_stay,
+};
