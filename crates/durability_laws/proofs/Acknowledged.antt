@@ -1,6 +1,6 @@
 -- What was acknowledged stays.
 use Rattle.std.proofs.Common.{◌≡◌, inl, inr, ℕ, zero, suc, ℤ, pos, Bool, true, false, not, cond, List, [], ◌∷◌, ◌++◌, append_assoc, Option, Some, None, Result, Ok, Err, refl, sym, ap, subst, ◌∙◌}
-use Rattle.std.specs.Prelude.{int_lt}
+use Rattle.std.specs.Prelude.{int_lt, drop, slice_range}
 use Rattle.std.specs.Ordering.{int_eq}
 use Rattle.std.proofs.lemmas.Bool.{and_parts}
 use Rattle.acl_binding.specs.declared.question.Caller.{Caller}
@@ -14,6 +14,9 @@ use Rattle.wire_types.specs.declared.topic.Topic.{Topic}
 use Rattle.wire_types.specs.ErrorCode.{number_of}
 use Rattle.record_batch.specs.Batch.{BatchData, IsBatch}
 use Rattle.record_batch.proofs.Lawful.{offset_alone_changes}
+use Rattle.record_batch.proofs.Moved.{eight_bytes}
+use Rattle.wire_types.specs.Schema.{int32, int64}
+use Rattle.std.proofs.lemmas.List.{take_at}
 use Rattle.producer_state.specs.declared.judgment.Judgment.{Judgment}
 use Rattle.producer_state.specs.declared.judgment.Judgment.TheVariants.{Next, Repeat, Refused}
 use Rattle.producer_state.specs.Sequences.{last_sequence, last_of, is_of_producer, is_written_by, Sequence, sequence, repeat, first_judgment, judgment_by_repeat, judgment_in, judgment_of as judged_by_log}
@@ -223,7 +226,7 @@ module _ (w : World) (caller : Caller) (r : ProduceRequest) where
         stands = record { before = a.log; after = []; log = a.goes_on; at = sym a.offset };
         sent = a.batch.bytes;
         is_sent = a.sent;
-        stored = inl (record { as_long = bytes.0; length_bytes = bytes.1; rest = bytes.2 });
+        stored = inl (record { base_offset = take_at (int64.written (end_of a.log)) (slice_range a.batch.bytes 8 12 ++ (int32.written (pos 0) ++ drop 16 a.batch.bytes)) 8 (eight_bytes (end_of a.log)); as_long = bytes.0; length_bytes = bytes.1; rest = bytes.2 });
       }
 
   repeat_stored : (topics : List TopicValue) (name : List ℕ) (p : ProducedRecords) (log : LogValue) (b old : BatchData) (offset : ℤ) → log_at topics name p.index ≡ Some log → judged name p ≡ Ok b → judged_by_log log b ≡ Repeat offset

@@ -1,5 +1,5 @@
 -- A committed offset stays until it is committed again.
-use Rattle.std.proofs.Common.{◌≡◌, ◌⊎◌, inl, inr, ℕ, ℤ, pos, Bool, true, false, cond, List, [], ◌∷◌, ◌++◌, append-nil, append_assoc, Option, Some, None, Result, Ok, refl, sym, ap, ◌∙◌}
+use Rattle.std.proofs.Common.{◌≡◌, ◌⊎◌, inl, inr, ℕ, ℤ, pos, Bool, true, false, cond, List, [], ◌∷◌, ◌++◌, append-nil, append_assoc, Option, Some, None, Result, Ok, Err, refl, sym, ap, ◌∙◌}
 use Rattle.std.specs.Ordering.{int_eq}
 use Rattle.std.specs.Prelude.{unwrap_or}
 use Rattle.acl_binding.specs.declared.question.Caller.{Caller}
@@ -18,6 +18,7 @@ use Rattle.msg_group.specs.declared.offset_commit.OffsetCommitReply.{OffsetCommi
 use Rattle.msg_group.specs.declared.offset_commit.OffsetToCommit.{OffsetToCommit}
 use Rattle.msg_group.specs.declared.offset_commit.CommittedOffset.{CommittedOffset}
 use Rattle.msg_group.specs.declared.offset_fetch.OffsetFetchRequest.{OffsetFetchRequest}
+use Rattle.msg_group.specs.declared.offset_fetch.OffsetFetchReply.{OffsetFetchReply}
 use Rattle.msg_group.specs.declared.offset_fetch.FetchedOffset.{FetchedOffset}
 use Rattle.msg_admin.specs.declared.request.Request.TheVariants.{OffsetCommit}
 use Rattle.msg_admin.specs.declared.reply.Reply.TheVariants as replies
@@ -34,7 +35,7 @@ use Rattle.walk.specs.Steps.{answer_by}
 use Rattle.walk.proofs.Headlines.{answers_each_part}
 use Rattle.txn_laws.specs.Sound.{Each}
 use Rattle.broker_world.specs.World.{World, rules_of}
-use Rattle.group_handlers.specs.OffsetFetch.{group_question, fetched_at, fetched_offset, offset_rule, fetch_reply, offsets_of, fetched_outcome, offset_fetch_by}
+use Rattle.group_handlers.specs.OffsetFetch.{group_question, fetched_code, fetched_at, fetched_offset, offset_rule, offsets_of, fetched_outcome, offset_fetch_by}
 use Rattle.api_dispatch.specs.Step.{outcome, step, reply_to}
 use Rattle.read_laws.specs.Fetches.{at_place, partition_in}
 use Rattle.read_laws.proofs.Fetches.{zero_is}
@@ -44,7 +45,7 @@ use Rattle.broker_laws.specs.Fetches.{IsOf, Waits, IsLastOf, PutsOther, LeavesOf
 use Rattle.broker_laws.proofs.Putting.{commits_by}
 use Rattle.broker_laws.proofs.LastPut.{fetches_by_events}
 use Rattle.broker_laws.proofs.RoundTrips.{commits_are_fetched}
-use Rattle.durability_laws.specs.Offsets.{LeavesCommitted, LeaveCommitted, AsksForOffset, IsSettled, IsOffsetTold, KeepsCommittedOffsets}
+use Rattle.durability_laws.specs.Offsets.{LeavesCommitted, LeaveCommitted, AsksForOffset, TellsUnstableOffsets, KeepsCommittedOffsets}
 use Rattle.durability_laws.proofs.Acknowledged.{later_is}
 
 -- ---- the commit
@@ -130,58 +131,70 @@ settled_same : (es : List OffsetEvent) (stable : Bool) (topic : List ℕ) (index
 settled_same es false topic index none = refl
 settled_same es true topic index none = fetches_by_events.stable es topic index (none refl)
 
-module _ (v : World) (caller : Caller) (r : OffsetFetchRequest) (i j : ℕ) (g : List ℕ) (o : PartitionOffset) (asks : AsksForOffset v caller r i j g o.topic o.index) (settled : IsSettled v r.require_stable g o.topic o.index) (is : fetch_result (group_in v g).offsets false o.topic o.index ≡ Ok (Some o)) where
+module _ (v : World) (caller : Caller) (r : OffsetFetchRequest) (i j : ℕ) (g topic : List ℕ) (index : ℤ) (asks : AsksForOffset v caller r i j g topic index) where
   abbrev api : PartRule ℤ FetchedOffset (Unit {0})
   api = offset_rule caller (offsets_of v r.group) r.require_stable
 
   abbrev told : List (Topic FetchedOffset)
   told = answers api (rules_of v) tt asks.topics
 
+  abbrev reply : OffsetFetchReply
+  reply = record { throttle = pos 0; topics = told; error = codes.None }
+
   group_granted : part_refusal (rules_of v) (group_question caller r.group ∷ []) ≡ None
   group_granted =
       ap (λ (n : List ℕ). part_refusal (rules_of v) (group_question caller n ∷ [])) asks.same_group
       ∙ ap (λ (x : Verdict). first_of (refusal_by x (question_of caller operations.Describe kinds.Group g)) None) asks.may_describe_group
 
-  topic_granted : refusal_of api (rules_of v) asks.named.name o.index ≡ None
+  topic_granted : refusal_of api (rules_of v) asks.named.name index ≡ None
   topic_granted =
       ap (λ (n : List ℕ). part_refusal (rules_of v) (question_of caller operations.Describe kinds.Topic n ∷ [])) asks.same_topic
-      ∙ ap (λ (x : Verdict). first_of (refusal_by x (question_of caller operations.Describe kinds.Topic o.topic)) None) asks.may_describe_topic
+      ∙ ap (λ (x : Verdict). first_of (refusal_by x (question_of caller operations.Describe kinds.Topic topic)) None) asks.may_describe_topic
 
-  result : fetch_result (offsets_of v r.group) r.require_stable asks.named.name o.index ≡ Ok (Some o)
-  result =
-      ap (λ (n : List ℕ). fetch_result (group_in v n).offsets r.require_stable asks.named.name o.index) asks.same_group
-      ∙ ap (λ (n : List ℕ). fetch_result (group_in v g).offsets r.require_stable n o.index) asks.same_topic
-      ∙ settled_same (group_in v g).offsets r.require_stable o.topic o.index settled
-      ∙ is
-
-  replied : (offset_fetch_by (part_refusal (rules_of v) (group_question caller r.group ∷ [])) v caller r).reply ≡ fetch_reply codes.None told
+  replied : (offset_fetch_by (part_refusal (rules_of v) (group_question caller r.group ∷ [])) v caller r).reply ≡ replies.OffsetFetch reply
   replied =
       ap (λ (x : Option Refusal). (offset_fetch_by x v caller r).reply) group_granted
       ∙ ap (λ (ts : Option (List (Topic ℤ))). (fetched_outcome v caller (offsets_of v r.group) r.require_stable ts).reply) asks.listed
 
-  placed : at_place told i j ≡ Some (fetched_at o o.index)
-  placed =
+  placed : (x : Result (Option PartitionOffset) ErrorCode) → fetch_result (group_in v g).offsets r.require_stable topic index ≡ x → at_place told i j ≡ Some (fetched_offset x index)
+  placed x is =
       let p = answers_each_part.places api (rules_of v) tt asks.topics i asks.named asks.at in
+      let result : fetch_result (offsets_of v r.group) r.require_stable asks.named.name index ≡ x =
+      ap (λ (n : List ℕ). fetch_result (group_in v n).offsets r.require_stable asks.named.name index) asks.same_group
+      ∙ ap (λ (n : List ℕ). fetch_result (group_in v g).offsets r.require_stable n index) asks.same_topic
+      ∙ is
+      in
       ap (partition_in j) p.1.0
-      ∙ p.1.1.places j o.index asks.asked
-      ∙ ap (λ (x : Option Refusal). Some (answer_by api x tt asks.named.name o.index)) topic_granted
-      ∙ ap (λ (x : Result (Option PartitionOffset) ErrorCode). Some (fetched_offset x o.index)) result
-
-  pub offset_told : IsOffsetTold (offset_fetch_by (part_refusal (rules_of v) (group_question caller r.group ∷ [])) v caller r).reply i j o
-  offset_told = record {
-    told = record { throttle = pos 0; topics = told; error = codes.None };
-    is = replied;
-    no_error = zero_is;
-    answer = fetched_at o o.index;
-    there = placed;
-    error = zero_is;
-    offset = refl;
-    metadata = refl;
-  }
+      ∙ p.1.1.places j index asks.asked
+      ∙ ap (λ (o : Option Refusal). Some (answer_by api o tt asks.named.name index)) topic_granted
+      ∙ ap (λ (y : Result (Option PartitionOffset) ErrorCode). Some (fetched_offset y index)) result
 
 pub keeps_committed_offsets : KeepsCommittedOffsets outcome
-keeps_committed_offsets w committer client c answer o later replied last left v leads caller agent r i j asks settled =
+keeps_committed_offsets w committer client c answer o later replies_so last left v leads caller agent r i j asks settled =
     let now = step w (Ask committer client (OffsetCommit c)) in
     let kept = (commits_are_fetched now).kept later c.group o.topic o.index (leave now later c.group o.topic o.index left) in
     let same = ap (λ (x : World). fetch_result (group_in x c.group).offsets false o.topic o.index) (leads ∙ later_is now later) in
-    offset_told v caller r i j c.group o asks settled (same ∙ kept ∙ is_told w committer client c answer o replied last)
+    let is = settled_same (group_in v c.group).offsets r.require_stable o.topic o.index settled ∙ same ∙ kept ∙ is_told w committer client c answer o replies_so last in
+    record {
+      told = reply v caller r i j c.group o.topic o.index asks;
+      is = replied v caller r i j c.group o.topic o.index asks;
+      no_error = zero_is;
+      answer = fetched_at o o.index;
+      there = placed v caller r i j c.group o.topic o.index asks (Ok (Some o)) is;
+      error = zero_is;
+      offset = refl;
+      metadata = refl;
+    }
+
+pub tells_unstable_offsets : TellsUnstableOffsets outcome
+tells_unstable_offsets v caller agent r i j g topic index producer asks stable waits =
+    let unstable = fetches_by_events.unstable (group_in v g).offsets producer topic index waits in
+    let is = ap (λ (b : Bool). fetch_result (group_in v g).offsets b topic index) stable ∙ unstable.1 in
+    record {
+      told = reply v caller r i j g topic index asks;
+      is = replied v caller r i j g topic index asks;
+      no_error = zero_is;
+      answer = fetched_code unstable.0 index;
+      there = placed v caller r i j g topic index asks (Err unstable.0) is;
+      error = unstable.2;
+    }

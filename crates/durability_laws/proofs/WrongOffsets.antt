@@ -1,5 +1,5 @@
 -- The wrong steps for offsets are refuted, each by a worked history.
-use Rattle.std.proofs.Common.{◌≡◌, ℤ, pos, negsuc, true, false, List, [], ◌∷◌, Option, Some, None, refl, sym, ap, ◌∙◌, codes as bytes}
+use Rattle.std.proofs.Common.{◌≡◌, ℤ, pos, negsuc, true, false, List, [], ◌∷◌, Option, Some, None, refl, sym, ap, ◌∙◌, codes as bytes, ◌++◌}
 use Rattle.wire_types.specs.declared.error_code.ErrorCode.TheVariants as codes
 use Rattle.wire_types.specs.declared.topic.Topic.{Topic}
 use Rattle.wire_types.specs.ErrorCode.{number_of}
@@ -16,10 +16,12 @@ use Rattle.group_offsets.specs.declared.event.PartitionOffset.{PartitionOffset}
 use Rattle.broker_world.specs.World.{World}
 use Rattle.read_laws.specs.Fetches.{at_place}
 use Rattle.read_laws.proofs.WrongFetches.{root, holding}
-use Rattle.broker_laws.specs.Fetches.{IsLastOf}
+use Rattle.group_offsets.specs.declared.event.OffsetEvent.{OffsetEvent}
+use Rattle.group_offsets.specs.declared.event.OffsetEvent.TheVariants.{Put, Stage}
+use Rattle.broker_laws.specs.Fetches.{IsLastOf, Waits}
 use Rattle.durability_laws.specs.Steps.{world_after, world_later}
-use Rattle.durability_laws.specs.Offsets.{LeavesCommitted, IsOffsetTold, KeepsCommittedOffsets}
-use Rattle.durability_laws.specs.WrongSteps.{step_forgetting_offsets, step_committing_nothing, step_telling_no_offset}
+use Rattle.durability_laws.specs.Offsets.{LeavesCommitted, IsOffsetTold, KeepsCommittedOffsets, TellsUnstableOffsets}
+use Rattle.durability_laws.specs.WrongSteps.{step_forgetting_offsets, step_committing_nothing, step_telling_no_offset, step_ignoring_require_stable, step_always_unstable}
 
 -- ---- the group `g` commits the offset 5 for partition 0 of the topic `a`
 
@@ -95,4 +97,44 @@ not_untold law =
     (record { same_group = refl; topics = record { name = bytes "a"; partitions = pos 0 ∷ [] } ∷ []; listed = refl; named = record { name = bytes "a"; partitions = pos 0 ∷ [] }; at = refl; same_topic = refl; asked = refl; may_describe_group = refl; may_describe_topic = refl }) (λ stable producer waits. not_stable stable)
     in
     let clash : ◌≡◌ {A = ℤ} (negsuc 0) (pos 5) = offset_is (step_telling_no_offset v fetches).reply (negsuc 0) told refl in
+    cc
+
+-- ---- who requires a stable offset
+
+abbrev stable_fetch : OffsetFetchRequest
+stable_fetch = record fetch { require_stable = true }
+
+none_waits : (producer : ℤ) → Waits (Put five ∷ []) producer (bytes "a") (pos 0) → ⊥
+none_waits producer h = by_place h.before h.events where
+  by_place : (before : List OffsetEvent) → Put five ∷ [] ≡ before ++ Stage producer h.offset ∷ h.after → ⊥
+  by_place [] is = cc
+  by_place (x ∷ []) is = cc
+  by_place (x ∷ y ∷ before) is = cc
+
+abbrev code_in : Option FetchedOffset → ℤ
+code_in None = negsuc 9
+code_in (Some a) = number_of a.error
+
+pub not_always_unstable : ¬ KeepsCommittedOffsets step_always_unstable
+unfolding number_of
+not_always_unstable law =
+    let v = world_later step_always_unstable w (commits ∷ []) in
+    let told = law w root None commit committed five [] refl last tt v refl root None stable_fetch 0 0
+    (record { same_group = refl; topics = record { name = bytes "a"; partitions = pos 0 ∷ [] } ∷ []; listed = refl; named = record { name = bytes "a"; partitions = pos 0 ∷ [] }; at = refl; same_topic = refl; asked = refl; may_describe_group = refl; may_describe_topic = refl }) (λ stable producer waits. none_waits producer waits)
+    in
+    let code : pos 88 ≡ pos 0 = ap (λ (x : Reply). code_in (at_place (topics_in x) 0 0)) told.is ∙ ap code_in told.there ∙ told.error in
+    cc
+
+-- an offset of the partition waits in the group
+abbrev waiting : World
+waiting = record w { groups = record { name = bytes "g"; member = None; generation = pos 0; assignment = None; offsets = Stage (pos 0) five ∷ [] } ∷ [] }
+
+pub not_ignored : ¬ TellsUnstableOffsets step_ignoring_require_stable
+unfolding number_of
+not_ignored law =
+    let told = law waiting root None stable_fetch 0 0 (bytes "g") (bytes "a") (pos 0) (pos 0)
+    (record { same_group = refl; topics = record { name = bytes "a"; partitions = pos 0 ∷ [] } ∷ []; listed = refl; named = record { name = bytes "a"; partitions = pos 0 ∷ [] }; at = refl; same_topic = refl; asked = refl; may_describe_group = refl; may_describe_topic = refl }) refl
+    (record { offset = five; is = record { of_topic = refl; of_index = refl }; before = []; after = []; events = refl; undecided = tt })
+    in
+    let code : pos 0 ≡ pos 88 = ap (λ (x : Reply). code_in (at_place (topics_in x) 0 0)) told.is ∙ ap code_in told.there ∙ told.error in
     cc

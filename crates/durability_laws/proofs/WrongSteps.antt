@@ -1,5 +1,5 @@
 -- The wrong steps are refuted, each by a worked history.
-use Rattle.std.proofs.Common.{◌≡◌, Bool, true, false, inl, ℕ, ℤ, pos, negsuc, List, [], ◌∷◌, ◌++◌, Option, Some, None, refl, sym, ap, subst, ◌∙◌, codes as bytes, arith}
+use Rattle.std.proofs.Common.{◌≡◌, Bool, true, false, inl, ℕ, ℤ, pos, negsuc, List, [], ◌∷◌, ◌++◌, Option, Some, None, refl, sym, ap, subst, ◌∙◌, codes as bytes, arith, ◌⊎◌, inr, take}
 use Rattle.std.specs.Prelude.{slice_get, ◌≤ℤ◌}
 use Rattle.std.proofs.lemmas.Int.{ints}
 use Rattle.wire_types.specs.declared.error_code.ErrorCode.TheVariants as codes
@@ -34,10 +34,11 @@ use Rattle.broker_world.specs.Logs.{log_at}
 use Rattle.read_laws.specs.Fetches.{at_place, topics_fetched, IsFetched, BeginsWith}
 use Rattle.read_laws.proofs.WrongFetches.{root, holding, plain, unended}
 use Rattle.durability_laws.specs.Steps.{StepRule, world_later}
-use Rattle.durability_laws.specs.Acknowledged.{KeepsWhatIsAcknowledged, KeepsWhatStands}
+use Rattle.wire_types.specs.Schema.{int64}
+use Rattle.durability_laws.specs.Acknowledged.{HasBytesSent, HasDuplicateSent, KeepsWhatIsAcknowledged, KeepsWhatStands}
 use Rattle.durability_laws.specs.Committed.{KeepsWhatIsStable, ServesWhatIsStable}
 use Rattle.durability_laws.specs.ReadBack.{ReadsWhatIsAcknowledged}
-use Rattle.durability_laws.specs.WrongSteps.{step_fetching_as_committed, step_appending_nothing, step_telling_the_next_offset, step_keeping_the_last_batch, step_taking_transactions_out, step_taking_markers_out, step_without_the_last_batch, step_without_a_large_batch}
+use Rattle.durability_laws.specs.WrongSteps.{step_keeping_the_offset_sent, step_fetching_as_committed, step_appending_nothing, step_telling_the_next_offset, step_keeping_the_last_batch, step_taking_transactions_out, step_taking_markers_out, step_without_the_last_batch, step_without_a_large_batch}
 
 -- ---- what stands
 
@@ -128,6 +129,32 @@ acknowledged_not_the_last_alone law =
     let same = one_stands (first_of (log_in w)) stored.stands.before stored.stands.after stored.batch stored.stands.log in
     let clash : pos 1 ≡ pos 0 = sym (ap (λ (b : BatchData). b.header.base_offset) same) ∙ stored.stands.at in
     cc
+
+two_stand : (x y : BatchData) (before after : LogValue) (b : BatchData) → Some (x ∷ y ∷ []) ≡ Some (before ++ b ∷ after) → (b ≡ x) ⊎ (b ≡ y)
+two_stand x y [] after b h = inl (let same : x ≡ b = cc in sym same)
+two_stand x y (z ∷ before) after b h = inr (one_stands y before after b (let rest : y ∷ [] ≡ before ++ b ∷ after = cc in ap (λ (l : LogValue). Some l) rest))
+
+no_producer : (producer : ℤ) → pos 0 ≤ℤ producer → negsuc 0 ≡ producer → ⊥
+no_producer producer low is = let clash : pos 0 ≤ℤ negsuc 0 = subst (λ (n : ℤ). pos 0 ≤ℤ n) (sym is) low in omega (arith, ints)
+
+pub acknowledged_with_its_offset : ¬ KeepsWhatIsAcknowledged step_keeping_the_offset_sent
+unfolding crc_after bit_shift_by header_in has_records is_valid first_fault records_at whole_value sized_at fixed_at named_or int_at nat_at required_at null_count_at varint_at null_or_count not_null front_at after_null_count_at after_count_at items_at many_at null_or varint_limit int_written number_of
+acknowledged_with_its_offset law =
+    let w = world_later step_keeping_the_offset_sent (holding ([] ∷ [])) (sends ∷ []) in
+    let v = world_later step_keeping_the_offset_sent w (sends ∷ []) in
+    let x = first_of (log_in v) in
+    let y = first_of (Some (rest_of (log_in v))) in
+    let stored = law w root None request 0 0 part sent (told (pos 1)) [] refl refl refl refl in
+    by_place stored.batch x y stored.sent (two_stand x y stored.stands.before stored.stands.after stored.batch stored.stands.log) refl refl refl refl stored.stands.at stored.stored where
+      by_bytes : (b y : BatchData) (sent : List ℕ) → b ≡ y → slice_get (take 8 y.bytes) 7 ≡ Some 0 → slice_get (int64.written y.header.base_offset) 7 ≡ Some 1 → y.header.producer_id ≡ negsuc 0 → HasBytesSent sent b ⊎ HasDuplicateSent sent b → ⊥
+      by_bytes b y sent same zero one nobody (inl bytes) =
+          let eighth : ◌≡◌ {A = Option ℕ} (Some 0) (Some 1) = sym zero ∙ ap (λ (a : BatchData). slice_get (take 8 a.bytes) 7) (sym same) ∙ ap (λ (l : List ℕ). slice_get l 7) bytes.base_offset ∙ ap (λ (a : BatchData). slice_get (int64.written a.header.base_offset) 7) same ∙ one in
+          cc
+      by_bytes b y sent same zero one nobody (inr d) = no_producer d.duplicate.header.producer_id d.of_producer (sym nobody ∙ ap (λ (a : BatchData). a.header.producer_id) (sym same) ∙ d.producer)
+
+      by_place : (b x y : BatchData) (sent : List ℕ) → (b ≡ x) ⊎ (b ≡ y) → x.header.base_offset ≡ pos 0 → slice_get (take 8 y.bytes) 7 ≡ Some 0 → slice_get (int64.written y.header.base_offset) 7 ≡ Some 1 → y.header.producer_id ≡ negsuc 0 → b.header.base_offset ≡ pos 1 → HasBytesSent sent b ⊎ HasDuplicateSent sent b → ⊥
+      by_place b x y sent (inl same) first zero one nobody at is = let clash : pos 0 ≡ pos 1 = sym first ∙ ap (λ (a : BatchData). a.header.base_offset) (sym same) ∙ at in cc
+      by_place b x y sent (inr same) first zero one nobody at is = by_bytes b y sent same zero one nobody is
 
 -- ---- from settings on
 

@@ -1,10 +1,11 @@
 -- What was acknowledged stays (Kafka documentation, "Message Delivery Semantics": once a message is
 -- committed to the log, it isn't lost).
-use Rattle.std.specs.Prelude.{◌≡◌, ◌⊎◌, ◌≤ℤ◌, ◌+ℤ◌, ◌-ℤ◌, ℕ, ℤ, pos, List, [], ◌∷◌, ◌++◌, length, drop, slice_range, Option, Some}
+use Rattle.std.specs.Prelude.{◌≡◌, ◌⊎◌, ◌≤ℤ◌, ◌+ℤ◌, ◌-ℤ◌, ℕ, ℤ, pos, List, [], ◌∷◌, ◌++◌, length, take, drop, slice_range, Option, Some}
 use Rattle.std.specs.Int.{int_rem_euclid}
 use Rattle.acl_binding.specs.declared.question.Caller.{Caller}
 use Rattle.wire_types.specs.declared.topic.Topic.{Topic}
 use Rattle.wire_types.specs.ErrorCode.{number_of}
+use Rattle.wire_types.specs.Schema.{int64}
 use Rattle.record_batch.specs.Batch.{BatchData, IsBatch}
 use Rattle.msg_data.specs.declared.produce.ProduceRequest.{ProduceRequest}
 use Rattle.msg_data.specs.declared.produce.ProducedRecords.{ProducedRecords}
@@ -29,9 +30,10 @@ pub record StandsAt (w : World) (name : List ℕ) (index offset : ℤ) (b : Batc
   pub log : log_at w.topics name index ≡ Some (before ++ b ∷ after)
   pub at : b.header.base_offset ≡ offset
 
--- It has the bytes that were sent, but for the base offset (0 to 7) and the leader epoch (12 to
--- 15), which the broker writes.
+-- It has the bytes that were sent, but for the base offset (0 to 7), which is the one at which it
+-- stands, and the leader epoch (12 to 15).
 pub record HasBytesSent (sent : List ℕ) (b : BatchData) : Type 0 where
+  pub base_offset : take 8 b.bytes ≡ int64.written b.header.base_offset
   pub as_long : length b.bytes ≡ length sent
   pub length_bytes : slice_range b.bytes 8 12 ≡ slice_range sent 8 12
   pub rest : drop 16 b.bytes ≡ drop 16 sent

@@ -67,7 +67,7 @@ pub record AsksForOffset (w : World) (caller : Caller) (r : OffsetFetchRequest) 
   pub may_describe_topic : MayDescribe w caller topic
 
 -- who requires a stable offset asks while no offset of the partition waits for the end of a
--- transaction (it would be told UNSTABLE_OFFSET_COMMIT, 88)
+-- transaction
 abbrev pub IsSettled : World → Bool → List ℕ → List ℕ → ℤ → Type 0
 IsSettled w stable g topic index =
     stable ≡ true → (producer : ℤ) → Waits (group_in w g).offsets producer topic index → ⊥
@@ -83,7 +83,16 @@ pub record IsOffsetTold (reply : Reply) (i j : ℕ) (o : PartitionOffset) : Type
   pub offset : answer.offset ≡ o.offset
   pub metadata : answer.metadata ≡ Some o.metadata
 
--- ---- the law
+-- the place is answered UNSTABLE_OFFSET_COMMIT (88)
+pub record IsUnstableTold (reply : Reply) (i j : ℕ) : Type 0 where
+  pub told : OffsetFetchReply
+  pub is : reply ≡ replies.OffsetFetch told
+  pub no_error : number_of told.error ≡ pos 0
+  pub answer : FetchedOffset
+  pub there : at_place told.topics i j ≡ Some answer
+  pub error : number_of answer.error ≡ pos 88
+
+-- ---- the laws
 
 -- Where an OffsetCommit is told no error for an offset of a partition, the last for that in the
 -- request, it is what an OffsetFetch of the group tells, after all later events that leave it.
@@ -101,3 +110,13 @@ KeepsCommittedOffsets rule =
     → AsksForOffset v caller r i j c.group o.topic o.index
     → IsSettled v r.require_stable c.group o.topic o.index
     → IsOffsetTold (rule v (Ask caller agent (OffsetFetch r))).reply i j o
+
+-- Who requires a stable offset is told UNSTABLE_OFFSET_COMMIT as long as an offset of the partition
+-- waits for the end of a transaction.
+abbrev pub TellsUnstableOffsets : StepRule → Type 0
+TellsUnstableOffsets rule =
+    (v : World) (caller : Caller) (agent : Option (List ℕ)) (r : OffsetFetchRequest) (i j : ℕ)
+    (g topic : List ℕ) (index producer : ℤ)
+    → AsksForOffset v caller r i j g topic index → r.require_stable ≡ true
+    → Waits (group_in v g).offsets producer topic index
+    → IsUnstableTold (rule v (Ask caller agent (OffsetFetch r))).reply i j

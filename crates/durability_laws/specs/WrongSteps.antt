@@ -1,12 +1,13 @@
 -- Wrong steps of a broker, each of which a law refutes.
-use Rattle.std.specs.Prelude.{pos, negsuc, ◌+ℤ◌, not, is_some, [], ◌∷◌, map, Some}
+use Rattle.std.specs.Prelude.{pos, negsuc, ◌+ℤ◌, not, is_some, [], ◌∷◌, map, Some, ◌++◌, drop, replicate, false, if◌then◌else◌}
 use Rattle.std.specs.List.{filter}
+use Rattle.wire_types.specs.declared.error_code.ErrorCode.TheVariants as codes
 use Rattle.wire_types.specs.declared.topic.Topic.{Topic}
 use Rattle.record_batch.specs.BatchHeader.{is_transactional}
 use Rattle.record_batch.specs.Batch.{BatchData}
 use Rattle.msg_data.specs.declared.produce.ProducedOffset.{ProducedOffset}
 use Rattle.msg_group.specs.declared.offset_fetch.FetchedOffset.{FetchedOffset}
-use Rattle.msg_admin.specs.declared.request.Request.TheVariants.{Produce, Fetch, OffsetCommit}
+use Rattle.msg_admin.specs.declared.request.Request.TheVariants.{Produce, Fetch, OffsetCommit, OffsetFetch}
 use Rattle.msg_admin.specs.declared.reply.Reply.{Reply}
 use Rattle.msg_admin.specs.declared.reply.Reply.TheVariants as replies
 use Rattle.audit_trail.specs.declared.event.Event.TheVariants.{Ask, Mark, Tick}
@@ -45,6 +46,9 @@ step_telling_the_next_offset w e =
 
 -- ---- logs
 
+abbrev pub offset_zero : BatchData → BatchData
+offset_zero b = record b { bytes = replicate 8 0 ++ drop 8 b.bytes }
+
 abbrev pub with_each_log : (LogValue → LogValue) → HandlerResult → HandlerResult
 with_each_log f o =
     record o {
@@ -55,6 +59,12 @@ with_each_log f o =
                 o.world.topics;
           };
     }
+
+-- wrong: a batch is appended with the base offset 0 in its bytes, as it was sent
+abbrev pub step_keeping_the_offset_sent : StepRule
+step_keeping_the_offset_sent w (Ask caller client (Produce r)) =
+    with_each_log (map offset_zero) (outcome w (Ask caller client (Produce r)))
+step_keeping_the_offset_sent w e = outcome w e
 
 abbrev pub last_batch : LogValue → LogValue
 last_batch [] = []
@@ -131,3 +141,29 @@ with_no_offset reply = reply
 -- wrong: an OffsetFetch is told that no offset is committed
 abbrev pub step_telling_no_offset : StepRule
 step_telling_no_offset w e = let o = outcome w e in record o { reply = with_no_offset o.reply }
+
+-- wrong: an OffsetFetch isn't asked whether it requires a stable offset
+abbrev pub step_ignoring_require_stable : StepRule
+step_ignoring_require_stable w (Ask caller client (OffsetFetch r)) =
+    outcome w (Ask caller client (OffsetFetch (record r { require_stable = false })))
+step_ignoring_require_stable w e = outcome w e
+
+abbrev pub unstable : FetchedOffset → FetchedOffset
+unstable told = record told { offset = negsuc 0; error = codes.UnstableOffsetCommit }
+
+abbrev pub with_unstable : Reply → Reply
+with_unstable (replies.OffsetFetch reply) =
+    replies.OffsetFetch
+    (record reply {
+      topics =
+          map (λ (t : Topic FetchedOffset). record t { partitions = map unstable t.partitions })
+          reply.topics;
+    })
+with_unstable reply = reply
+
+-- wrong: who requires a stable offset is told UNSTABLE_OFFSET_COMMIT (88) whatever waits
+abbrev pub step_always_unstable : StepRule
+step_always_unstable w (Ask caller client (OffsetFetch r)) =
+    let o = outcome w (Ask caller client (OffsetFetch r)) in
+    if r.require_stable then record o { reply = with_unstable o.reply } else o
+step_always_unstable w e = outcome w e

@@ -5,9 +5,9 @@ ghost use Rattle.api_dispatch.specs.Step.{outcome};
 ghost use Rattle.durability_laws.specs.Acknowledged.{KeepsWhatIsAcknowledged, KeepsWhatStands};
 ghost use Rattle.durability_laws.specs.Committed.{KeepsWhatIsStable, ServesWhatIsStable};
 ghost use Rattle.durability_laws.specs.ReadBack.{ReadsWhatIsAcknowledged};
-ghost use Rattle.durability_laws.specs.Offsets.{KeepsCommittedOffsets};
-ghost use Rattle.durability_laws.specs.WrongSteps.{step_forgetting_offsets, step_committing_nothing, step_telling_no_offset};
-ghost use Rattle.durability_laws.specs.WrongSteps.{step_appending_nothing, step_telling_the_next_offset, step_keeping_the_last_batch, step_taking_transactions_out, step_taking_markers_out, step_without_the_last_batch, step_without_a_large_batch, step_fetching_as_committed};
+ghost use Rattle.durability_laws.specs.Offsets.{KeepsCommittedOffsets, TellsUnstableOffsets};
+ghost use Rattle.durability_laws.specs.WrongSteps.{step_forgetting_offsets, step_committing_nothing, step_telling_no_offset, step_ignoring_require_stable, step_always_unstable};
+ghost use Rattle.durability_laws.specs.WrongSteps.{step_appending_nothing, step_telling_the_next_offset, step_keeping_the_offset_sent, step_keeping_the_last_batch, step_taking_transactions_out, step_taking_markers_out, step_without_the_last_batch, step_without_a_large_batch, step_fetching_as_committed};
 
 /// What was sent to a partition that a Produce was told no error for stands in the partition's log at the offset that was told,
 /// after all later events. Whatever stands in a log stays there, at its offset.
@@ -15,6 +15,7 @@ pub fn acknowledged_records_stay()
     ensures acknowledged { KeepsWhatIsAcknowledged outcome }
     ensures acknowledged_not_dropped { ¬ KeepsWhatIsAcknowledged step_appending_nothing }
     ensures acknowledged_at_its_offset { ¬ KeepsWhatIsAcknowledged step_telling_the_next_offset }
+    ensures acknowledged_with_its_offset { ¬ KeepsWhatIsAcknowledged step_keeping_the_offset_sent }
     ensures acknowledged_not_the_last_alone { ¬ KeepsWhatIsAcknowledged step_keeping_the_last_batch }
     ensures stands { KeepsWhatStands outcome }
     ensures stands_not_the_last_alone { ¬ KeepsWhatStands step_keeping_the_last_batch }
@@ -43,10 +44,14 @@ pub fn committed_records_stay()
 {}
 
 /// An offset that an OffsetCommit was told no error for is what an OffsetFetch tells whoever may DESCRIBE the group and the topic,
-/// after all later events that neither commit that partition for the group nor end a transaction in which it waits.
+/// after all later events that neither commit that partition for the group nor end a transaction in which an offset of it waits.
+/// Whoever requires a stable offset is told it while none waits, and UNSTABLE_OFFSET_COMMIT (88) while one does.
 pub fn committed_offsets_stay()
     ensures offsets { KeepsCommittedOffsets outcome }
     ensures offsets_not_forgotten { ¬ KeepsCommittedOffsets step_forgetting_offsets }
     ensures offsets_not_dropped { ¬ KeepsCommittedOffsets step_committing_nothing }
     ensures offsets_not_untold { ¬ KeepsCommittedOffsets step_telling_no_offset }
+    ensures offsets_not_always_unstable { ¬ KeepsCommittedOffsets step_always_unstable }
+    ensures unstable { TellsUnstableOffsets outcome }
+    ensures unstable_not_ignored { ¬ TellsUnstableOffsets step_ignoring_require_stable }
 {}

@@ -22,3 +22,6 @@ returns-clause-stands_not_the_last_alone c = wrong.stands_not_the_last_alone
 
 pub returns-clause-stands_in_transactions : goal.returns-clause-stands_in_transactions
 returns-clause-stands_in_transactions c = wrong.stands_in_transactions
+
+pub returns-clause-acknowledged_with_its_offset : goal.returns-clause-acknowledged_with_its_offset
+returns-clause-acknowledged_with_its_offset c = wrong.acknowledged_with_its_offset
