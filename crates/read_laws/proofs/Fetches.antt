@@ -43,7 +43,7 @@ use Rattle.broker_world.specs.First.{non_negative}
 use Rattle.broker_world.specs.Partitions.{AreLogs}
 use Rattle.broker_world.specs.Logs.{log_in, log_of, log_at, HoldLogs}
 use Rattle.data_handlers.specs.Fetch.{budget_for, budget_after_batches, is_outside, served_by, served_at, batch_bytes, fetched_partition, budget_after, fetch_rule, whole_budget, fetch_outcome}
-use Rattle.read_laws.specs.Fetches.{at_place, partition_in, records_of, records_before, BeginsWith, MayRead, IsReadable, level_end, IsNextBatch, HasRoom, HaveBytes, LogsHaveBytes, TellsNoError, ServesTheNextBatch, ServesNothingElse}
+use Rattle.read_laws.specs.Fetches.{at_place, partition_in, records_of, records_before, BeginsWith, MayRead, IsReadable, level_end, IsNextBatch, bytes_of, FirstReaches, IsRunFrom, HasRoom, HaveBytes, LogsHaveBytes, TellsNoError, ServesTheNextBatch, ServesNothingElse, ServesWholeBatches, ServesAllThatFit}
 
 same_element : {X : Type 0} (x y : X) → Some x ≡ Some y → x ≡ y
 same_element x y h = cc
@@ -374,4 +374,141 @@ serves_nothing_else w caller r i j p log is none =
       told = told.is;
       error = zero_is;
       records = ap (λ (l : LogValue). batch_bytes (at_least_one (not told.budget.given) l (fitting_batches (budget_for told.budget p) l))) free ∙ ap batch_bytes (none_served (not told.budget.given));
+    }
+
+-- ---- whole batches
+
+-- the batches from the one on that holds the offset, and those before
+record IsFrom (offset : ℤ) (log : LogValue) : Type 0 where
+  before : LogValue
+  parts : log ≡ before ++ batches_from offset log
+  passed : AllByRecursion (λ (b : BatchData). next_offset b ≤ℤ offset) before
+  reaches : FirstReaches offset (batches_from offset log)
+
+from_here : (offset : ℤ) (log : LogValue) → IsFrom offset log
+from_here offset [] = record { before = []; parts = refl; passed = tt; reaches = tt }
+from_here offset (b ∷ rest) = by_test (int_le (next_offset b) offset) refl (from_here offset rest) where
+  by_test : (t : Bool) → int_le (next_offset b) offset ≡ t → IsFrom offset rest → IsFrom offset (b ∷ rest)
+  by_test true e f =
+      let here : batches_from offset (b ∷ rest) ≡ batches_from offset rest = ap (λ (x : Bool). cond x (batches_from offset rest) (b ∷ rest)) e in
+      record { before = b ∷ f.before; parts = ap (λ (l : LogValue). b ∷ l) f.parts ∙ ap (λ (l : LogValue). b ∷ (f.before ++ l)) (sym here); passed = (le_is (next_offset b) offset e, f.passed); reaches = subst (FirstReaches offset) (sym here) f.reaches }
+  by_test false e f =
+      let here : batches_from offset (b ∷ rest) ≡ b ∷ rest = ap (λ (x : Bool). cond x (batches_from offset rest) (b ∷ rest)) e in
+      record { before = []; parts = sym here; passed = tt; reaches = subst (FirstReaches offset) (sym here) (le_is_not (next_offset b) offset e) }
+
+-- a list begins with another
+abbrev Begins : LogValue → LogValue → Type 0
+Begins front list = (after : LogValue) × (list ≡ front ++ after)
+
+abbrev AllBelow : ℤ → LogValue → Type 0
+AllBelow limit log = AllByRecursion (λ (b : BatchData). next_offset b ≤ℤ limit) log
+
+below_begins : (limit : ℤ) (log : LogValue) → Begins (batches_below limit log) log × AllBelow limit (batches_below limit log)
+below_begins limit [] = (([], refl), tt)
+below_begins limit (b ∷ rest) = by_test (int_le (next_offset b) limit) refl (below_begins limit rest) where
+  by_test : (t : Bool) → int_le (next_offset b) limit ≡ t → Begins (batches_below limit rest) rest × AllBelow limit (batches_below limit rest)
+      → Begins (cond t (b ∷ batches_below limit rest) []) (b ∷ rest) × AllBelow limit (cond t (b ∷ batches_below limit rest) [])
+  by_test true e more = ((more.0.0, ap (λ (l : LogValue). b ∷ l) more.0.1), (le_is (next_offset b) limit e, more.1))
+  by_test false e more = ((b ∷ rest, refl), tt)
+
+fitting_begins : (budget : ℕ) (log : LogValue) → Begins (fitting_batches budget log) log
+fitting_begins budget [] = ([], refl)
+fitting_begins budget (b ∷ rest) = by_test (nat_le (length b.bytes) budget) (fitting_begins (budget - length b.bytes) rest) where
+  by_test : (t : Bool) → Begins (fitting_batches (budget - length b.bytes) rest) rest → Begins (cond t (b ∷ fitting_batches (budget - length b.bytes) rest) []) (b ∷ rest)
+  by_test true more = (more.0, ap (λ (l : LogValue). b ∷ l) more.1)
+  by_test false more = (b ∷ rest, refl)
+
+one_begins : (log : LogValue) → Begins (take 1 log) log
+one_begins [] = ([], refl)
+one_begins (b ∷ rest) = (rest, refl)
+
+least_begins : (forced : Bool) (candidates run : LogValue) → Begins run candidates → Begins (at_least_one forced candidates run) candidates
+least_begins true candidates [] begins = one_begins candidates
+least_begins false candidates [] begins = begins
+least_begins forced candidates (b ∷ run) begins = begins
+
+front_reaches : (offset : ℤ) (front after : LogValue) → FirstReaches offset (front ++ after) → FirstReaches offset front
+front_reaches offset [] after reaches = tt
+front_reaches offset (b ∷ front) after reaches = reaches
+
+front_below : (limit : ℤ) (front after : LogValue) → AllBelow limit (front ++ after) → AllBelow limit front
+front_below limit [] after all = tt
+front_below limit (b ∷ front) after all = (all.0, front_below limit front after all.1)
+
+run_is : (level : Isolation) (log : LogValue) (offset : ℤ) (budget : ℕ) (forced : Bool) → IsRunFrom level log offset (run_of log offset level budget forced)
+run_is level log offset budget forced =
+    let limit : ℤ = limit_of level log in
+    let candidates : LogValue = batches_below limit (batches_from offset log) in
+    let run : LogValue = at_least_one forced candidates (fitting_batches budget candidates) in
+    let from = from_here offset log in
+    let below = below_begins limit (batches_from offset log) in
+    let begins = least_begins forced candidates (fitting_batches budget candidates) (fitting_begins budget candidates) in
+    let rest : batches_from offset log ≡ run ++ (begins.0 ++ below.0.0) = below.0.1 ∙ ap (λ (l : LogValue). l ++ below.0.0) begins.1 ∙ append_assoc run begins.0 below.0.0 in
+    record {
+      before = from.before;
+      after = begins.0 ++ below.0.0;
+      parts = from.parts ∙ ap (λ (l : LogValue). from.before ++ l) rest;
+      passed = from.passed;
+      reaches = front_reaches offset run (begins.0 ++ below.0.0) (subst (FirstReaches offset) rest from.reaches);
+      whole = subst (λ (n : ℤ). AllBelow n run) (sym (same_end level log)) (front_below limit run begins.0 (subst (AllBelow limit) begins.1 below.1));
+    }
+
+pub serves_whole_batches : ServesWholeBatches fetch_outcome
+serves_whole_batches w caller r i j p log is =
+    let told = somehow w caller r i j p log is in
+    record {
+      answer = fetched_partition r.isolation p (Ok (served w caller r log p told.budget));
+      told = told.is;
+      error = zero_is;
+      records = (run_of log p.offset r.isolation (budget_for told.budget p) (not told.budget.given), run_is r.isolation log p.offset (budget_for told.budget p) (not told.budget.given), refl);
+    }
+
+-- ---- all that fit
+
+below_run : (limit : ℤ) (run after : LogValue) → AllBelow limit run → batches_below limit (run ++ after) ≡ run ++ batches_below limit after
+below_run limit [] after all = refl
+below_run limit (b ∷ run) after all =
+    ap (λ (t : Bool). cond t (b ∷ batches_below limit (run ++ after)) []) (le_true (next_offset b) limit all.0)
+    ∙ ap (λ (l : LogValue). b ∷ l) (below_run limit run after all.1)
+
+fitting_run : (budget : ℕ) (run more : LogValue) → total_bytes run ≤ budget → (rest : LogValue) × (fitting_batches budget (run ++ more) ≡ run ++ rest)
+fitting_run budget [] more small = (fitting_batches budget more, refl)
+fitting_run budget (b ∷ run) more small = by_size (nat_le (length b.bytes) budget) refl (fitting_run (budget - length b.bytes) run more (omega (arith, small))) where
+  by_size : (t : Bool) → nat_le (length b.bytes) budget ≡ t → (rest : LogValue) × (fitting_batches (budget - length b.bytes) (run ++ more) ≡ run ++ rest)
+      → (rest : LogValue) × (cond t (b ∷ fitting_batches (budget - length b.bytes) (run ++ more)) [] ≡ b ∷ (run ++ rest))
+  by_size true e more = (more.0, ap (λ (l : LogValue). b ∷ l) more.1)
+  by_size false e more = absurd (omega (arith, small, leb-false (length b.bytes) budget e))
+
+-- the run that is served begins with each run that fits
+run_fits : (level : Isolation) (log : LogValue) (offset : ℤ) (run : LogValue) (budget : ℕ) (forced : Bool) → IsRunFrom level log offset run → total_bytes run ≤ budget → (rest : LogValue) × (run_of log offset level budget forced ≡ run ++ rest)
+run_fits level log offset [] budget forced is small = (run_of log offset level budget forced, refl)
+run_fits level log offset (b ∷ run) budget forced is small =
+    let limit : ℤ = limit_of level log in
+    let from = ap (batches_from offset) is.parts ∙ passed_from offset is.before b (run ++ is.after) is.passed is.reaches in
+    let below = ap (batches_below limit) from ∙ below_run limit (b ∷ run) is.after (subst (λ (n : ℤ). AllBelow n (b ∷ run)) (same_end level log) is.whole) in
+    let fits = fitting_run budget (b ∷ run) (batches_below limit is.after) small in (
+      fits.0,
+      ap (λ (l : LogValue). at_least_one forced l (fitting_batches budget l)) below
+          ∙ ap (at_least_one forced ((b ∷ run) ++ batches_below limit is.after)) fits.1,
+    )
+
+bytes_joined : (xs ys : LogValue) → batch_bytes (xs ++ ys) ≡ batch_bytes xs ++ batch_bytes ys
+bytes_joined [] ys = refl
+bytes_joined (x ∷ xs) ys = ap (λ (l : List ℕ). x.bytes ++ l) (bytes_joined xs ys) ∙ sym (append_assoc x.bytes (batch_bytes xs) (batch_bytes ys))
+
+pub serves_all_that_fit : ServesAllThatFit fetch_outcome
+serves_all_that_fit w caller r i j p log run have is from own whole =
+    let told = told_after w caller r i j is.topic p have is.named is.asked in
+    let taken : List ℕ = records_before (all_told w caller r) i j in
+    let size : total_bytes run ≡ length (batch_bytes run) = sym (bytes_long run) in
+    let small : total_bytes run ≤ min (non_negative p.max_bytes) (non_negative r.max_bytes - length taken) =
+    le-min (omega (arith, size, as_count (length (batch_bytes run)) p.max_bytes own)) (omega (arith, size, as_count (length taken + length (batch_bytes run)) r.max_bytes whole))
+    in
+    let fits = run_fits r.isolation log p.offset run (budget_for (left_after r taken) p) (not (left_after r taken).given) from small in
+    record {
+      answer = fetched_partition r.isolation p (Ok (served w caller r log p told.budget));
+      told = told.is ∙ ap (λ (x : FetchedRecords). Some x) (readable_told w caller r i j p log told.budget is);
+      error = zero_is;
+      records = subst (λ (b : FetchBudget). BeginsWith (bytes_of run) (batch_bytes (run_of log p.offset r.isolation (budget_for b p) (not b.given)))) (sym told.left)
+          (batch_bytes fits.0, ap batch_bytes fits.1 ∙ bytes_joined run fits.0);
     }

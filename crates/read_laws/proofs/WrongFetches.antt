@@ -1,6 +1,7 @@
 -- The wrong rules for a Fetch are refuted, each in a worked world.
 use Rattle.std.proofs.Common.{◌≡◌, inl, inr, ℕ, ℤ, pos, negsuc, List, [], ◌∷◌, ◌++◌, Option, Some, None, refl, sym, ap, subst, ◌∙◌, codes as bytes, arith}
 use Rattle.std.specs.Prelude.{◌≤ℤ◌}
+use Rattle.std.specs.List.{AllByRecursion}
 use Rattle.std.proofs.lemmas.Int.{ints}
 use Rattle.acl_binding.specs.declared.question.Caller.{Caller}
 use Rattle.acl_binding.specs.Book.{empty_book}
@@ -14,9 +15,9 @@ use Rattle.msg_data.specs.declared.fetch.FetchedRecords.{FetchedRecords}
 use Rattle.txn_coordinator.specs.Coordinator.{no_transactions}
 use Rattle.broker_world.specs.World.{World, LogValue}
 use Rattle.broker_world.specs.HandlerResult.{HandlerResult}
-use Rattle.read_laws.specs.Fetches.{at_place, topics_fetched, IsFetched, BeginsWith, IsReadable, IsNextBatch, TellsNoError, ServesTheNextBatch, ServesNothingElse}
+use Rattle.read_laws.specs.Fetches.{at_place, topics_fetched, IsFetched, BeginsWith, IsReadable, IsNextBatch, bytes_of, IsRunFrom, TellsNoError, ServesTheNextBatch, ServesNothingElse, ServesWholeBatches, ServesAllThatFit}
 use Rattle.read_laws.proofs.Fetches.{log_has}
-use Rattle.read_laws.specs.WrongFetches.{fetch_always_out_of_range, fetch_answering_nobody, fetch_as_committed, fetch_as_uncommitted, fetch_after_the_offset, fetch_without_a_large_batch, fetch_one_partition, fetch_without_the_last_batch}
+use Rattle.read_laws.specs.WrongFetches.{fetch_always_out_of_range, fetch_answering_nobody, fetch_as_committed, fetch_as_uncommitted, fetch_after_the_offset, fetch_without_a_large_batch, fetch_one_partition, fetch_without_the_last_batch, fetch_cutting_batches, fetch_one_batch, fetch_above_the_level_end}
 
 -- ---- a topic `a` with partitions of such logs, of which the super user `root` asks
 
@@ -171,3 +172,73 @@ next_also_later law =
     (law both_world root both 0 1 (from_start (pos 1)) (plain ∷ []) plain (log_has both_world.topics (((omega arith, tt), ((omega arith, tt), tt)), tt))
     (record { topic = record { name = bytes "a"; partitions = from_start (pos 0) ∷ from_start (pos 1) ∷ [] }; named = refl; asked = refl; may_read = refl; there = refl; from_start = record { le = tt }; to_end = record { le = tt } })
     (plain_next ReadUncommitted) (inr (record { le = tt }, record { le = tt }))) refl)
+
+-- ---- one partition with two batches
+
+abbrev second : BatchData
+second = record plain { header = record plain.header { base_offset = pos 1 }; bytes = 4 ∷ 5 ∷ 6 ∷ [] }
+
+abbrev second_unended : BatchData
+second_unended = record unended { header = record unended.header { base_offset = pos 1 }; bytes = 4 ∷ 5 ∷ 6 ∷ [] }
+
+-- none of them is passed
+none_passed : (x : BatchData) (rest before after : List BatchData) → plain ∷ rest ≡ (x ∷ before) ++ after → next_offset x ≤ℤ pos 0 → ⊥
+none_passed x rest before after parts passed =
+    let same : plain ≡ x = cc in
+    let ended : pos 1 ≤ℤ pos 0 = subst (λ (b : BatchData). next_offset b ≤ℤ pos 0) (sym same) passed in
+    omega (arith, ints)
+
+-- no run of the batch has two of its three bytes
+not_two : (run : List BatchData) → IsRunFrom ReadUncommitted (plain ∷ []) (pos 0) run → ◌≡◌ {A = List ℕ} (1 ∷ 2 ∷ []) (bytes_of run) → ⊥
+not_two [] is told = cc
+not_two (b ∷ rest) is told = by_place is.before is.parts is.passed where
+  by_place : (before : List BatchData) → plain ∷ [] ≡ before ++ ((b ∷ rest) ++ is.after) → AllByRecursion (λ (x : BatchData). next_offset x ≤ℤ pos 0) before → ⊥
+  by_place [] parts passed =
+      let same : b ≡ plain = cc in
+      let clash : ◌≡◌ {A = List ℕ} (1 ∷ 2 ∷ []) (1 ∷ 2 ∷ 3 ∷ bytes_of rest) = told ∙ ap (λ (x : BatchData). x.bytes ++ bytes_of rest) same in
+      cc
+  by_place (x ∷ before) parts passed = none_passed x [] before ((b ∷ rest) ++ is.after) parts passed.0
+
+pub whole_not_cut : ¬ ServesWholeBatches fetch_cutting_batches
+whole_not_cut law =
+    let told = records_are _ 0 0 (λ records. (run : List BatchData) × IsRunFrom ReadUncommitted (plain ∷ []) (pos 0) run × (records ≡ bytes_of run)) (1 ∷ 2 ∷ [])
+    (law world root (one ReadUncommitted (pos 2)) 0 0 (from_start (pos 0)) (plain ∷ []) (readable ReadUncommitted (pos 2) plain refl)) refl
+    in
+    not_two told.0 told.1 told.2
+
+-- no run below the last stable offset, which is 1, has all six bytes
+not_six : (run : List BatchData) → IsRunFrom ReadCommitted (plain ∷ second_unended ∷ []) (pos 0) run → ◌≡◌ {A = List ℕ} (1 ∷ 2 ∷ 3 ∷ 4 ∷ 5 ∷ 6 ∷ []) (bytes_of run) → ⊥
+not_six [] is told = cc
+not_six (b ∷ []) is told = by_place is.before is.parts is.passed where
+  by_place : (before : List BatchData) → plain ∷ second_unended ∷ [] ≡ before ++ ((b ∷ []) ++ is.after) → AllByRecursion (λ (x : BatchData). next_offset x ≤ℤ pos 0) before → ⊥
+  by_place [] parts passed =
+      let same : b ≡ plain = cc in
+      let clash : ◌≡◌ {A = List ℕ} (1 ∷ 2 ∷ 3 ∷ 4 ∷ 5 ∷ 6 ∷ []) (1 ∷ 2 ∷ 3 ∷ []) = told ∙ ap (λ (x : BatchData). x.bytes ++ []) same in
+      cc
+  by_place (x ∷ before) parts passed = none_passed x (second_unended ∷ []) before ((b ∷ []) ++ is.after) parts passed.0
+not_six (b ∷ c ∷ rest) is told = by_place is.before is.parts is.passed where
+  by_place : (before : List BatchData) → plain ∷ second_unended ∷ [] ≡ before ++ ((b ∷ c ∷ rest) ++ is.after) → AllByRecursion (λ (x : BatchData). next_offset x ≤ℤ pos 0) before → ⊥
+  by_place [] parts passed =
+      let same : second_unended ≡ c = cc in
+      let ended : pos 2 ≤ℤ pos 1 = subst (λ (x : BatchData). next_offset x ≤ℤ pos 1) (sym same) is.whole.1.0 in
+      omega (arith, ints)
+  by_place (x ∷ before) parts passed = none_passed x (second_unended ∷ []) before ((b ∷ c ∷ rest) ++ is.after) parts passed.0
+
+pub whole_below_the_level_end : ¬ ServesWholeBatches fetch_above_the_level_end
+whole_below_the_level_end law =
+    let told = records_are _ 0 0 (λ records. (run : List BatchData) × IsRunFrom ReadCommitted (plain ∷ second_unended ∷ []) (pos 0) run × (records ≡ bytes_of run)) (1 ∷ 2 ∷ 3 ∷ 4 ∷ 5 ∷ 6 ∷ [])
+    (law (holding ((plain ∷ second_unended ∷ []) ∷ [])) root (one ReadCommitted (pos 100)) 0 0 (from_start (pos 0)) (plain ∷ second_unended ∷ [])
+    (record { topic = record { name = bytes "a"; partitions = from_start (pos 0) ∷ [] }; named = refl; asked = refl; may_read = refl; there = refl; from_start = record { le = tt }; to_end = record { le = tt } })) refl
+    in
+    not_six told.0 told.1 told.2
+
+not_three : BeginsWith (1 ∷ 2 ∷ 3 ∷ 4 ∷ 5 ∷ 6 ∷ []) (1 ∷ 2 ∷ 3 ∷ []) → ⊥
+not_three (rest, is) = let clash : ◌≡◌ {A = List ℕ} (1 ∷ 2 ∷ 3 ∷ []) (1 ∷ 2 ∷ 3 ∷ 4 ∷ 5 ∷ 6 ∷ rest) = is in cc
+
+pub fitting_not_one_alone : ¬ ServesAllThatFit fetch_one_batch
+fitting_not_one_alone law =
+    let two = holding ((plain ∷ second ∷ []) ∷ []) in
+    not_three (records_are _ 0 0 (BeginsWith (1 ∷ 2 ∷ 3 ∷ 4 ∷ 5 ∷ 6 ∷ [])) (1 ∷ 2 ∷ 3 ∷ [])
+    (law two root (one ReadUncommitted (pos 100)) 0 0 (from_start (pos 0)) (plain ∷ second ∷ []) (plain ∷ second ∷ []) (log_has two.topics (((omega arith, (omega arith, tt)), tt), tt))
+    (record { topic = record { name = bytes "a"; partitions = from_start (pos 0) ∷ [] }; named = refl; asked = refl; may_read = refl; there = refl; from_start = record { le = tt }; to_end = record { le = tt } })
+    (record { before = []; after = []; parts = refl; passed = tt; reaches = record { lt = tt }; whole = (record { le = tt }, (record { le = tt }, tt)) }) (record { le = tt }) (record { le = tt })) refl)

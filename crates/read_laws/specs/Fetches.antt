@@ -100,6 +100,26 @@ pub record IsNextBatch (level : Isolation) (log : LogValue) (offset : ℤ) (batc
   pub reaches : offset <ℤ next_offset batch
   pub whole : next_offset batch ≤ℤ level_end level log
 
+-- the bytes of batches, one after the other
+abbrev pub bytes_of : List BatchData → List ℕ
+bytes_of batches = flat_map (λ (b : BatchData). b.bytes) batches
+
+-- the first of them, if there is one, ends after the offset
+abbrev pub FirstReaches : ℤ → List BatchData → Type 0
+FirstReaches offset [] = Unit {0}
+FirstReaches offset (b ∷ rest) = offset <ℤ next_offset b
+
+-- they follow one another in the log from the first one on that ends after the offset, and each
+-- ends at the level's end at most
+pub record IsRunFrom (level : Isolation) (log : LogValue) (offset : ℤ) (run : List BatchData)
+    : Type 0 where
+  pub before : List BatchData
+  pub after : List BatchData
+  pub parts : log ≡ before ++ (run ++ after)
+  pub passed : AllByRecursion (λ (b : BatchData). next_offset b ≤ℤ offset) before
+  pub reaches : FirstReaches offset run
+  pub whole : AllByRecursion (λ (b : BatchData). next_offset b ≤ℤ level_end level log) run
+
 -- There is room for so many bytes, once so many were taken: none were, or the partition's max_bytes
 -- and the request's both suffice.
 abbrev pub HasRoom : FetchRequest → FetchPartition → ℕ → ℕ → Type 0
@@ -142,3 +162,27 @@ ServesNothingElse fetch =
     → IsReadable w caller r i j p log
     → ((batch : BatchData) → IsNextBatch r.isolation log p.offset batch → ⊥)
     → IsFetched (fetch w caller r) i j (λ records. records ≡ [])
+
+-- whatever is served is whole batches, one after the other
+abbrev pub ServesWholeBatches : FetchRule → Type 0
+ServesWholeBatches fetch =
+    (w : World) (caller : Caller) (r : FetchRequest) (i j : ℕ) (p : FetchPartition) (log : LogValue)
+    → IsReadable w caller r i j p log
+    → IsFetched (fetch w caller r) i j
+    (λ records. (run : List BatchData)
+    × IsRunFrom r.isolation log p.offset run
+    × (records ≡ bytes_of run))
+
+-- and as many as max_bytes of the partition and of the request have room for, once the partitions
+-- before it took theirs
+abbrev pub ServesAllThatFit : FetchRule → Type 0
+ServesAllThatFit fetch =
+    (w : World) (caller : Caller) (r : FetchRequest) (i j : ℕ) (p : FetchPartition) (log : LogValue)
+    (run : List BatchData)
+    → LogsHaveBytes w.topics → IsReadable w caller r i j p log
+    → IsRunFrom r.isolation log p.offset run → pos (length (bytes_of run)) ≤ℤ p.max_bytes
+    → pos
+    (length (records_before (topics_fetched (fetch w caller r).reply) i j)
+    + length (bytes_of run))
+    ≤ℤ r.max_bytes
+    → IsFetched (fetch w caller r) i j (BeginsWith (bytes_of run))

@@ -1,11 +1,11 @@
 -- Wrong rules for a Fetch, each of which a law refutes.
-use Rattle.std.specs.Prelude.{pos, negsuc, ◌+ℤ◌, true, not, List, [], map, Option, Some, None, Result, Ok, Err, if◌then◌else◌}
+use Rattle.std.specs.Prelude.{ℕ, pos, negsuc, ◌+ℤ◌, true, not, List, [], map, Option, Some, None, Result, Ok, Err, if◌then◌else◌, take}
 use Rattle.std.proofs.Common.{zero-le}
 use Rattle.wire_types.specs.declared.error_code.ErrorCode.{ErrorCode}
 use Rattle.wire_types.specs.declared.error_code.ErrorCode.TheVariants as codes
 use Rattle.wire_types.specs.declared.topic.Topic.{Topic}
 use Rattle.partition_log.specs.declared.served.Served.{Served}
-use Rattle.partition_log.specs.Fetch.{limit_of, served_batches, served_of}
+use Rattle.partition_log.specs.Fetch.{batches_from, batches_below, limit_of, served_batches, served_of}
 use Rattle.msg_data.specs.declared.isolation.Isolation.{Isolation}
 use Rattle.msg_data.specs.declared.isolation.Isolation.TheVariants.{ReadUncommitted, ReadCommitted}
 use Rattle.msg_data.specs.declared.fetch.FetchRequest.{FetchRequest}
@@ -15,11 +15,12 @@ use Rattle.msg_admin.specs.declared.reply.Reply.{Reply}
 use Rattle.msg_admin.specs.declared.reply.Reply.TheVariants as replies
 use Rattle.walk.specs.Rule.{PartRule}
 use Rattle.walk.specs.Walk.{answers, refusals}
+use Rattle.walk.specs.Woven.{has_any}
 use Rattle.data_handlers.specs.declared.fetch_budget.FetchBudget.{FetchBudget}
 use Rattle.broker_world.specs.World.{World, LogValue, rules_of}
 use Rattle.broker_world.specs.HandlerResult.{HandlerResult}
 use Rattle.broker_world.specs.Logs.{log_at}
-use Rattle.data_handlers.specs.Fetch.{budget_for, is_outside, served_at, fetched_partition, budget_after, fetch_rule, whole_budget, fetch_outcome}
+use Rattle.data_handlers.specs.Fetch.{budget_for, is_outside, served_at, batch_bytes, fetched_partition, budget_after, fetch_rule, whole_budget, fetch_outcome}
 use Rattle.read_laws.specs.Fetches.{FetchRule}
 
 -- ---- the right rule, with another reply
@@ -125,5 +126,59 @@ fetch_without_the_last_batch w caller r =
       plain = λ budget name p.
           fetched_partition r.isolation p
           (served_below_end r.isolation budget p (log_at w.topics name p.index));
+    })
+    (whole_budget r) w r
+
+abbrev pub filled_up : ℕ → Isolation → FetchPartition → Option LogValue → FetchedRecords
+    → FetchedRecords
+filled_up most level p None told = told
+filled_up most level p (Some log) told =
+    record told {
+      records =
+          take most
+          (batch_bytes (batches_below (limit_of level log) (batches_from p.offset log)));
+    }
+
+-- wrong: an answer is filled up to max_bytes by the front of a batch
+abbrev pub fetch_cutting_batches : FetchRule
+fetch_cutting_batches w caller r =
+    fetch_by
+    (record (fetch_rule caller r.isolation w.topics) {
+      plain = λ budget name p.
+          filled_up (budget_for budget p) r.isolation p (log_at w.topics name p.index)
+          (fetched_partition r.isolation p (served_at r.isolation w.topics budget name p));
+    })
+    (whole_budget r) w r
+
+abbrev pub first_alone : Result Served ErrorCode → Result Served ErrorCode
+first_alone (Err code) = Err code
+first_alone (Ok s) = Ok (record s { batches = take 1 s.batches })
+
+-- wrong: a partition is served one batch at most
+abbrev pub fetch_one_batch : FetchRule
+fetch_one_batch w caller r =
+    fetch_by
+    (record (fetch_rule caller r.isolation w.topics) {
+      plain = λ budget name p.
+          fetched_partition r.isolation p
+          (first_alone (served_at r.isolation w.topics budget name p));
+    })
+    (whole_budget r) w r
+
+-- the batches of the second, once the first has any
+abbrev pub going_on : Result Served ErrorCode → Result Served ErrorCode → Result Served ErrorCode
+going_on (Ok s) (Ok t) =
+    if has_any s.batches then Ok (record s { batches = t.batches }) else Ok s
+going_on s t = s
+
+-- wrong: once read_committed has begun, it goes on above the last stable offset
+abbrev pub fetch_above_the_level_end : FetchRule
+fetch_above_the_level_end w caller r =
+    fetch_by
+    (record (fetch_rule caller r.isolation w.topics) {
+      plain = λ budget name p.
+          fetched_partition r.isolation p
+          (going_on (served_at r.isolation w.topics budget name p)
+          (served_at ReadUncommitted w.topics budget name p));
     })
     (whole_budget r) w r

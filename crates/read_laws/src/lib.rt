@@ -4,4 +4,4 @@
 
 mod laws;
 
-pub use laws::{fetches_succeed, list_offsets_succeeds};
+pub use laws::{fetches_serve_whole_batches, fetches_succeed, list_offsets_succeeds};

@@ -1,0 +1,18 @@
+use Rattle.read_laws.proofs.Fetches.{serves_whole_batches, serves_all_that_fit}
+use Rattle.read_laws.proofs.WrongFetches as wrong
+use Rattle.read_laws.proofs.laws.fetches_serve_whole_batches.Goals as goal
+
+pub returns-clause-whole : goal.returns-clause-whole
+returns-clause-whole c = serves_whole_batches
+
+pub returns-clause-whole_not_cut : goal.returns-clause-whole_not_cut
+returns-clause-whole_not_cut c = wrong.whole_not_cut
+
+pub returns-clause-whole_below_the_level_end : goal.returns-clause-whole_below_the_level_end
+returns-clause-whole_below_the_level_end c = wrong.whole_below_the_level_end
+
+pub returns-clause-fitting : goal.returns-clause-fitting
+returns-clause-fitting c = serves_all_that_fit
+
+pub returns-clause-fitting_not_one_alone : goal.returns-clause-fitting_not_one_alone
+returns-clause-fitting_not_one_alone c = wrong.fitting_not_one_alone
