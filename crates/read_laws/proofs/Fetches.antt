@@ -4,8 +4,8 @@ use Rattle.std.specs.Prelude.{int_le, int_lt, nat_le, ◌≤ℤ◌, ◌<ℤ◌, 
 use Rattle.std.specs.Option.{option_and_then}
 use Rattle.std.specs.Str.{bytes_eq}
 use Rattle.std.specs.List.{AllByRecursion}
-use Rattle.std.proofs.Math.Nat.{le-min}
-use Rattle.std.proofs.lemmas.Bool.{leb-false}
+use Rattle.std.proofs.Math.Nat.{le-min, min-le_left, min-le_right}
+use Rattle.std.proofs.lemmas.Bool.{leb-false, leb-true}
 use Rattle.std.proofs.lemmas.Int.{ints}
 use Rattle.acl_binding.specs.declared.question.Caller.{Caller}
 use Rattle.acl_binding.specs.declared.question.Verdict.{Verdict}
@@ -39,11 +39,12 @@ use Rattle.walk.proofs.Weaving.{woven}
 use Rattle.walk.proofs.Headlines.{answers_each_part}
 use Rattle.data_handlers.specs.declared.fetch_budget.FetchBudget.{FetchBudget}
 use Rattle.broker_world.specs.World.{World, TopicValue, LogValue, find_topic, rules_of}
+use Rattle.broker_world.specs.HandlerResult.{HandlerResult}
 use Rattle.broker_world.specs.First.{non_negative}
 use Rattle.broker_world.specs.Partitions.{AreLogs}
 use Rattle.broker_world.specs.Logs.{log_in, log_of, log_at, HoldLogs}
 use Rattle.data_handlers.specs.Fetch.{budget_for, budget_after_batches, is_outside, served_by, served_at, batch_bytes, fetched_partition, budget_after, fetch_rule, whole_budget, fetch_outcome}
-use Rattle.read_laws.specs.Fetches.{at_place, partition_in, records_of, records_before, BeginsWith, MayRead, IsReadable, level_end, IsNextBatch, bytes_of, FirstReaches, IsRunFrom, HasRoom, HaveBytes, LogsHaveBytes, TellsNoError, ServesTheNextBatch, ServesNothingElse, ServesWholeBatches, ServesAllThatFit}
+use Rattle.read_laws.specs.Fetches.{at_place, partition_in, records_of, records_before, BeginsWith, MayRead, IsReadable, level_end, IsNextBatch, bytes_of, FirstReaches, IsRunFrom, IsWithinLimits, ServesWithinLimits, HasFetchLaws, IsOnlyFetch, FetchRule, topics_fetched, IsFetched, HasRoom, HaveBytes, LogsHaveBytes, TellsNoError, ServesTheNextBatch, ServesNothingElse, ServesWholeBatches, ServesAllThatFit}
 
 same_element : {X : Type 0} (x y : X) → Some x ≡ Some y → x ≡ y
 same_element x y h = cc
@@ -511,4 +512,129 @@ serves_all_that_fit w caller r i j p log run have is from own whole =
       error = zero_is;
       records = subst (λ (b : FetchBudget). BeginsWith (bytes_of run) (batch_bytes (run_of log p.offset r.isolation (budget_for b p) (not b.given)))) (sym told.left)
           (batch_bytes fits.0, ap batch_bytes fits.1 ∙ bytes_joined run fits.0);
+    }
+
+-- ---- no more than the limits allow
+
+fitting_small : (budget : ℕ) (log : LogValue) → total_bytes (fitting_batches budget log) ≤ budget
+fitting_small budget [] = omega arith
+fitting_small budget (b ∷ rest) = by_test (nat_le (length b.bytes) budget) refl (fitting_small (budget - length b.bytes) rest) where
+  by_test : (t : Bool) → nat_le (length b.bytes) budget ≡ t → total_bytes (fitting_batches (budget - length b.bytes) rest) ≤ budget - length b.bytes → total_bytes (cond t (b ∷ fitting_batches (budget - length b.bytes) rest) []) ≤ budget
+  by_test true e more = omega (arith, more, leb-true (length b.bytes) budget e)
+  by_test false e more = omega arith
+
+-- they fit, or are one that was forced
+abbrev FitsOrForced : Bool → ℕ → LogValue → Type 0
+FitsOrForced forced budget run = (total_bytes run ≤ budget) ⊎ ((forced ≡ true) × ((b : BatchData) × (run ≡ b ∷ [])))
+
+least_fits : (forced : Bool) (budget : ℕ) (candidates run : LogValue) → total_bytes run ≤ budget → FitsOrForced forced budget (at_least_one forced candidates run)
+least_fits true budget [] [] small = inl (omega arith)
+least_fits true budget (c ∷ candidates) [] small = inr (refl, (c, refl))
+least_fits false budget candidates [] small = inl (omega arith)
+least_fits forced budget candidates (b ∷ run) small = inl small
+
+none_taken : (taken : List ℕ) → not (has_any taken) ≡ true → length taken ≡ 0
+none_taken [] none = refl
+none_taken (b ∷ bs) none = absurd (let clash : false ≡ true = none in cc)
+
+as_limit : (n : ℕ) (z : ℤ) → n ≤ non_negative z → 0 < n → pos n ≤ℤ z
+as_limit n (pos m) small some = omega (arith, ints, small)
+as_limit n (negsuc m) small some = absurd (omega (arith, small, some))
+
+no_bytes : (bytes : List ℕ) → length bytes ≡ 0 → bytes ≡ []
+no_bytes [] none = refl
+no_bytes (b ∷ bs) none = absurd (omega (arith, none))
+
+one_run : (level : Isolation) (log : LogValue) (offset : ℤ) (b : BatchData) → IsRunFrom level log offset (b ∷ []) → IsNextBatch level log offset b
+one_run level log offset b is = record { before = is.before; after = is.after; parts = is.parts; passed = is.passed; reaches = is.reaches; whole = is.whole.0 }
+
+run_within : (r : FetchRequest) (p : FetchPartition) (log : LogValue) (taken : List ℕ) (run : LogValue) → IsRunFrom r.isolation log p.offset run → FitsOrForced (not (has_any taken)) (min (non_negative p.max_bytes) (non_negative r.max_bytes - length taken)) run
+    → IsWithinLimits r p log (length taken) (batch_bytes run)
+run_within r p log taken run is (inr (forced, (b, one))) = inr (inl (none_taken taken forced, (b, one_run r.isolation log p.offset b (subst (IsRunFrom r.isolation log p.offset) one is), ap batch_bytes one ∙ append-nil b.bytes)))
+run_within r p log taken run is (inl small) = by_size (length (batch_bytes run)) refl where
+  limits : (n : ℕ) → length (batch_bytes run) ≡ n → 0 < n → (pos n ≤ℤ p.max_bytes) × (pos (length taken + n) ≤ℤ r.max_bytes)
+  limits n same some =
+      let size = bytes_long run in
+      let own : n ≤ non_negative p.max_bytes = omega (arith, small, size, same, min-le_left (non_negative p.max_bytes) (non_negative r.max_bytes - length taken)) in
+      let whole : n ≤ non_negative r.max_bytes - length taken = omega (arith, small, size, same, min-le_right (non_negative p.max_bytes) (non_negative r.max_bytes - length taken)) in
+      (as_limit n p.max_bytes own some, as_limit (length taken + n) r.max_bytes (omega (arith, whole, some)) (omega (arith, some)))
+
+  by_size : (n : ℕ) → length (batch_bytes run) ≡ n → IsWithinLimits r p log (length taken) (batch_bytes run)
+  by_size zero none = inr (inr (no_bytes (batch_bytes run) none))
+  by_size (suc n) same = inl (subst (λ (m : ℕ). (pos m ≤ℤ p.max_bytes) × (pos (length taken + m) ≤ℤ r.max_bytes)) (sym same) (limits (suc n) same (omega arith)))
+
+pub serves_within_limits : ServesWithinLimits fetch_outcome
+serves_within_limits w caller r i j p log have is =
+    let told = told_after w caller r i j is.topic p have is.named is.asked in
+    let taken : List ℕ = records_before (all_told w caller r) i j in
+    let budget : ℕ = budget_for (left_after r taken) p in
+    let forced : Bool = not (has_any taken) in
+    let candidates : LogValue = batches_below (limit_of r.isolation log) (batches_from p.offset log) in
+    let within = run_within r p log taken (run_of log p.offset r.isolation budget forced) (run_is r.isolation log p.offset budget forced) (least_fits forced budget candidates (fitting_batches budget candidates) (fitting_small budget candidates)) in
+    record {
+      answer = fetched_partition r.isolation p (Ok (served w caller r log p told.budget));
+      told = told.is ∙ ap (λ (x : FetchedRecords). Some x) (readable_told w caller r i j p log told.budget is);
+      error = zero_is;
+      records = subst (λ (b : FetchBudget). IsWithinLimits r p log (length taken) (batch_bytes (run_of log p.offset r.isolation (budget_for b p) (not b.given)))) (sym told.left) within;
+    }
+
+pub has_fetch_laws : HasFetchLaws fetch_outcome
+has_fetch_laws = record { next = serves_the_next_batch; whole = serves_whole_batches; fitting = serves_all_that_fit; within = serves_within_limits }
+
+-- ---- nothing is left open
+
+-- what one place tells is one answer
+same_told : (o : HandlerResult) (i j : ℕ) (First Second : List ℕ → Type 0) (a : IsFetched o i j First) (b : IsFetched o i j Second) → b.answer.records ≡ a.answer.records
+same_told o i j First Second a b = ap (λ (x : FetchedRecords). x.records) (same_element b.answer a.answer (sym b.told ∙ a.told))
+
+begins_also : (front whole records : List ℕ) → whole ≡ front → BeginsWith front records → BeginsWith whole records
+begins_also front whole records same (rest, is) = (rest, is ∙ ap (λ (l : List ℕ). l ++ rest) (sym same))
+
+-- what the one serves begins with what the other does
+module _ (fetch other : FetchRule) (has : HasFetchLaws fetch) (more : HasFetchLaws other) (w : World) (caller : Caller) (r : FetchRequest) (i j : ℕ) (p : FetchPartition) (log : LogValue) (have : LogsHaveBytes w.topics) (is : IsReadable w caller r i j p log) where
+  abbrev taken : FetchRule → ℕ
+  taken rule = length (records_before (topics_fetched (rule w caller r).reply) i j)
+
+  abbrev IsRun : List ℕ → Type 0
+  IsRun records = (run : LogValue) × IsRunFrom r.isolation log p.offset run × (records ≡ bytes_of run)
+
+  served_also : (Front : List ℕ → Type 0) (own : IsFetched (fetch w caller r) i j IsRun) → IsFetched (fetch w caller r) i j Front → Front own.answer.records
+  served_also Front own served = subst Front (same_told (fetch w caller r) i j IsRun Front own served) served.records
+
+  begins_by : (own : IsFetched (fetch w caller r) i j IsRun) (records : List ℕ) (run : LogValue) → taken fetch ≡ taken other → IsRunFrom r.isolation log p.offset run → records ≡ bytes_of run → IsWithinLimits r p log (taken other) records → BeginsWith records own.answer.records
+  begins_by own records run same from told (inl fits) =
+      let size : length records ≡ length (bytes_of run) = ap length told in
+      let here = subst (λ (n : ℕ). pos n ≤ℤ p.max_bytes) size fits.0 in
+      let whole = subst (λ (n : ℕ). pos (n + length (bytes_of run)) ≤ℤ r.max_bytes) (sym same) (subst (λ (n : ℕ). pos (taken other + n) ≤ℤ r.max_bytes) size fits.1) in
+      begins_also (bytes_of run) records own.answer.records told (served_also (BeginsWith (bytes_of run)) own (has.fitting w caller r i j p log run have is from here whole))
+  begins_by own records run same from told (inr (inl (none, (b, next, one)))) =
+      begins_also b.bytes records own.answer.records one (served_also (BeginsWith b.bytes) own (has.next w caller r i j p log b have is next (inl (same ∙ none))))
+  begins_by own records run same from told (inr (inr none)) = begins_also [] records own.answer.records none (own.answer.records, refl)
+
+  begins_with : taken fetch ≡ taken other → BeginsWith (more.whole w caller r i j p log is).answer.records (has.whole w caller r i j p log is).answer.records
+  begins_with same =
+      let whole = more.whole w caller r i j p log is in
+      let within = more.within w caller r i j p log have is in
+      begins_by (has.whole w caller r i j p log is) whole.answer.records whole.records.0 same whole.records.1 whole.records.2
+      (subst (IsWithinLimits r p log (taken other)) (same_told (other w caller r) i j IsRun (IsWithinLimits r p log (taken other)) whole within) within.records)
+
+-- two lists that begin with each other are the same
+same_lists : (x y : List ℕ) → BeginsWith x y → BeginsWith y x → y ≡ x
+same_lists x y (rest, is) (more, also) =
+    let none : length rest ≡ 0 = omega (arith, ap length is, ap length also, length-append x rest, length-append y more) in
+    is ∙ ap (λ (l : List ℕ). x ++ l) (no_bytes rest none) ∙ append-nil x
+
+pub is_only_fetch : IsOnlyFetch fetch_outcome
+is_only_fetch other more w caller r i j p log have is same =
+    let first = has_fetch_laws.whole w caller r i j p log is in
+    let second = more.whole w caller r i j p log is in
+    let one : first.answer.records ≡ second.answer.records =
+    same_lists second.answer.records first.answer.records
+    (begins_with fetch_outcome other has_fetch_laws more w caller r i j p log have is same)
+    (begins_with other fetch_outcome more has_fetch_laws w caller r i j p log have is (sym same))
+    in
+    record {
+      records = second.answer.records;
+      first = record { answer = first.answer; told = first.told; error = first.error; records = one };
+      second = record { answer = second.answer; told = second.told; error = second.error; records = refl };
     }

@@ -15,9 +15,9 @@ use Rattle.msg_data.specs.declared.fetch.FetchedRecords.{FetchedRecords}
 use Rattle.txn_coordinator.specs.Coordinator.{no_transactions}
 use Rattle.broker_world.specs.World.{World, LogValue}
 use Rattle.broker_world.specs.HandlerResult.{HandlerResult}
-use Rattle.read_laws.specs.Fetches.{at_place, topics_fetched, IsFetched, BeginsWith, IsReadable, IsNextBatch, bytes_of, IsRunFrom, TellsNoError, ServesTheNextBatch, ServesNothingElse, ServesWholeBatches, ServesAllThatFit}
+use Rattle.read_laws.specs.Fetches.{at_place, topics_fetched, IsFetched, BeginsWith, IsReadable, IsNextBatch, bytes_of, IsRunFrom, IsWithinLimits, ServesWithinLimits, TellsNoError, ServesTheNextBatch, ServesNothingElse, ServesWholeBatches, ServesAllThatFit}
 use Rattle.read_laws.proofs.Fetches.{log_has}
-use Rattle.read_laws.specs.WrongFetches.{fetch_always_out_of_range, fetch_answering_nobody, fetch_as_committed, fetch_as_uncommitted, fetch_after_the_offset, fetch_without_a_large_batch, fetch_one_partition, fetch_without_the_last_batch, fetch_cutting_batches, fetch_one_batch, fetch_above_the_level_end}
+use Rattle.read_laws.specs.WrongFetches.{fetch_always_out_of_range, fetch_answering_nobody, fetch_as_committed, fetch_as_uncommitted, fetch_after_the_offset, fetch_without_a_large_batch, fetch_one_partition, fetch_without_the_last_batch, fetch_cutting_batches, fetch_one_batch, fetch_above_the_level_end, fetch_never_used_up, fetch_without_a_partition_limit}
 
 -- ---- a topic `a` with partitions of such logs, of which the super user `root` asks
 
@@ -242,3 +242,48 @@ fitting_not_one_alone law =
     (law two root (one ReadUncommitted (pos 100)) 0 0 (from_start (pos 0)) (plain ∷ second ∷ []) (plain ∷ second ∷ []) (log_has two.topics (((omega arith, (omega arith, tt)), tt), tt))
     (record { topic = record { name = bytes "a"; partitions = from_start (pos 0) ∷ [] }; named = refl; asked = refl; may_read = refl; there = refl; from_start = record { le = tt }; to_end = record { le = tt } })
     (record { before = []; after = []; parts = refl; passed = tt; reaches = record { lt = tt }; whole = (record { le = tt }, (record { le = tt }, tt)) }) (record { le = tt }) (record { le = tt })) refl)
+
+-- ---- no more than the limits allow
+
+-- with five bytes for both, the second partition isn't served three after three
+abbrev both_in_five : FetchRequest
+both_in_five = asks ReadUncommitted (pos 5) (from_start (pos 0) ∷ from_start (pos 1) ∷ [])
+
+above_five : IsWithinLimits both_in_five (from_start (pos 1)) (plain ∷ []) 3 (1 ∷ 2 ∷ 3 ∷ []) → ⊥
+above_five (inl fits) = let six : pos 6 ≤ℤ pos 5 = fits.1 in omega (arith, ints)
+above_five (inr (inl one)) = let clash : ◌≡◌ {A = ℕ} 3 0 = one.0 in cc
+above_five (inr (inr none)) = let clash : ◌≡◌ {A = List ℕ} (1 ∷ 2 ∷ 3 ∷ []) [] = none in cc
+
+pub within_what_is_left : ¬ ServesWithinLimits fetch_never_used_up
+within_what_is_left law =
+    above_five (records_are _ 0 1 (IsWithinLimits both_in_five (from_start (pos 1)) (plain ∷ []) 3) (1 ∷ 2 ∷ 3 ∷ [])
+    (law both_world root both_in_five 0 1 (from_start (pos 1)) (plain ∷ []) (log_has both_world.topics (((omega arith, tt), ((omega arith, tt), tt)), tt))
+    (record { topic = record { name = bytes "a"; partitions = from_start (pos 0) ∷ from_start (pos 1) ∷ [] }; named = refl; asked = refl; may_read = refl; there = refl; from_start = record { le = tt }; to_end = record { le = tt } })) refl)
+
+-- with three bytes of its own the partition isn't served six
+abbrev three : FetchPartition
+three = record { index = pos 0; offset = pos 0; max_bytes = pos 3 }
+
+abbrev in_three : FetchRequest
+in_three = asks ReadUncommitted (pos 100) (three ∷ [])
+
+short : (b : BatchData) → IsNextBatch ReadUncommitted (plain ∷ second ∷ []) (pos 0) b → ◌≡◌ {A = List ℕ} (1 ∷ 2 ∷ 3 ∷ 4 ∷ 5 ∷ 6 ∷ []) b.bytes → ⊥
+short b is told = by_place is.before is.parts is.passed where
+  by_place : (before : List BatchData) → plain ∷ second ∷ [] ≡ before ++ b ∷ is.after → AllByRecursion (λ (x : BatchData). next_offset x ≤ℤ pos 0) before → ⊥
+  by_place [] parts passed =
+      let same : b ≡ plain = cc in
+      let clash : ◌≡◌ {A = List ℕ} (1 ∷ 2 ∷ 3 ∷ 4 ∷ 5 ∷ 6 ∷ []) (1 ∷ 2 ∷ 3 ∷ []) = told ∙ ap (λ (x : BatchData). x.bytes) same in
+      cc
+  by_place (x ∷ before) parts passed = none_passed x (second ∷ []) before (b ∷ is.after) parts passed.0
+
+above_three : IsWithinLimits in_three three (plain ∷ second ∷ []) 0 (1 ∷ 2 ∷ 3 ∷ 4 ∷ 5 ∷ 6 ∷ []) → ⊥
+above_three (inl fits) = let six : pos 6 ≤ℤ pos 3 = fits.0 in omega (arith, ints)
+above_three (inr (inl (none, (b, next, one)))) = short b next one
+above_three (inr (inr none)) = let clash : ◌≡◌ {A = List ℕ} (1 ∷ 2 ∷ 3 ∷ 4 ∷ 5 ∷ 6 ∷ []) [] = none in cc
+
+pub within_the_partition_limit : ¬ ServesWithinLimits fetch_without_a_partition_limit
+within_the_partition_limit law =
+    let two = holding ((plain ∷ second ∷ []) ∷ []) in
+    above_three (records_are _ 0 0 (IsWithinLimits in_three three (plain ∷ second ∷ []) 0) (1 ∷ 2 ∷ 3 ∷ 4 ∷ 5 ∷ 6 ∷ [])
+    (law two root in_three 0 0 three (plain ∷ second ∷ []) (log_has two.topics (((omega arith, (omega arith, tt)), tt), tt))
+    (record { topic = record { name = bytes "a"; partitions = three ∷ [] }; named = refl; asked = refl; may_read = refl; there = refl; from_start = record { le = tt }; to_end = record { le = tt } })) refl)

@@ -186,3 +186,46 @@ ServesAllThatFit fetch =
     + length (bytes_of run))
     ≤ℤ r.max_bytes
     → IsFetched (fetch w caller r) i j (BeginsWith (bytes_of run))
+
+-- The records are no more than max_bytes of the partition and of the request allow, once so many
+-- bytes were taken; or they are the next batch alone, where none were; or there are none.
+abbrev pub IsWithinLimits : FetchRequest → FetchPartition → LogValue → ℕ → List ℕ → Type 0
+IsWithinLimits r p log taken records =
+    ((pos (length records) ≤ℤ p.max_bytes) × (pos (taken + length records) ≤ℤ r.max_bytes))
+    ⊎ (((taken ≡ 0)
+    × ((b : BatchData) × IsNextBatch r.isolation log p.offset b × (records ≡ b.bytes)))
+    ⊎ (records ≡ []))
+
+abbrev pub ServesWithinLimits : FetchRule → Type 0
+ServesWithinLimits fetch =
+    (w : World) (caller : Caller) (r : FetchRequest) (i j : ℕ) (p : FetchPartition) (log : LogValue)
+    → LogsHaveBytes w.topics → IsReadable w caller r i j p log
+    → IsFetched (fetch w caller r) i j
+    (IsWithinLimits r p log (length (records_before (topics_fetched (fetch w caller r).reply) i j)))
+
+-- ---- what they leave open
+
+-- the four laws of what is served
+pub record HasFetchLaws (fetch : FetchRule) : Type 0 where
+  pub next : ServesTheNextBatch fetch
+  pub whole : ServesWholeBatches fetch
+  pub fitting : ServesAllThatFit fetch
+  pub within : ServesWithinLimits fetch
+
+-- both answer the place without an error, and with the same records
+pub record ServeTheSame (a b : HandlerResult) (i j : ℕ) : Type 0 where
+  pub records : List ℕ
+  pub first : IsFetched a i j (λ told. told ≡ records)
+  pub second : IsFetched b i j (λ told. told ≡ records)
+
+-- Nothing: each rule that has the laws serves a partition the same, as long as the partitions
+-- before it took as much.
+abbrev pub IsOnlyFetch : FetchRule → Type 0
+IsOnlyFetch fetch =
+    (other : FetchRule) → HasFetchLaws other
+    → (w : World) (caller : Caller) (r : FetchRequest) (i j : ℕ) (p : FetchPartition)
+    (log : LogValue)
+    → LogsHaveBytes w.topics → IsReadable w caller r i j p log
+    → length (records_before (topics_fetched (fetch w caller r).reply) i j)
+    ≡ length (records_before (topics_fetched (other w caller r).reply) i j)
+    → ServeTheSame (fetch w caller r) (other w caller r) i j

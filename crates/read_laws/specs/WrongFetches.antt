@@ -1,5 +1,5 @@
 -- Wrong rules for a Fetch, each of which a law refutes.
-use Rattle.std.specs.Prelude.{ℕ, pos, negsuc, ◌+ℤ◌, true, not, List, [], map, Option, Some, None, Result, Ok, Err, if◌then◌else◌, take}
+use Rattle.std.specs.Prelude.{ℤ, ℕ, pos, negsuc, ◌+ℤ◌, true, not, List, [], map, Option, Some, None, Result, Ok, Err, if◌then◌else◌, take}
 use Rattle.std.proofs.Common.{zero-le}
 use Rattle.wire_types.specs.declared.error_code.ErrorCode.{ErrorCode}
 use Rattle.wire_types.specs.declared.error_code.ErrorCode.TheVariants as codes
@@ -182,3 +182,28 @@ fetch_above_the_level_end w caller r =
           (served_at ReadUncommitted w.topics budget name p));
     })
     (whole_budget r) w r
+
+-- wrong: what a partition was served isn't taken off the request's max_bytes
+abbrev pub fetch_never_used_up : FetchRule
+fetch_never_used_up w caller r =
+    fetch_by
+    (record (fetch_rule caller r.isolation w.topics) {
+      after = λ budget name p. budget;
+      takes = λ budget name p. zero-le;
+    })
+    (whole_budget r) w r
+
+abbrev pub without_limit : ℤ → FetchPartition → FetchPartition
+without_limit most p = record p { max_bytes = most }
+
+-- wrong: a partition's own max_bytes isn't looked at
+abbrev pub fetch_without_a_partition_limit : FetchRule
+fetch_without_a_partition_limit w caller r =
+    fetch_outcome w caller
+    (record r {
+      topics =
+          map
+          (λ (t : Topic FetchPartition). record t
+          { partitions = map (without_limit r.max_bytes) t.partitions })
+          r.topics;
+    })

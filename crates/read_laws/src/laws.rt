@@ -4,8 +4,8 @@ ghost use Rattle.data_handlers.specs.Fetch.{fetch_outcome};
 ghost use Rattle.data_handlers.specs.ListOffsets.{list_offsets_outcome};
 ghost use Rattle.broker_world.specs.World.{World};
 ghost use Rattle.broker_world.specs.Logs.{HoldLogs};
-ghost use Rattle.read_laws.specs.Fetches.{LogsHaveBytes, TellsNoError, ServesTheNextBatch, ServesNothingElse, ServesWholeBatches, ServesAllThatFit};
-ghost use Rattle.read_laws.specs.WrongFetches.{fetch_always_out_of_range, fetch_answering_nobody, fetch_as_committed, fetch_as_uncommitted, fetch_after_the_offset, fetch_without_a_large_batch, fetch_one_partition, fetch_without_the_last_batch, fetch_cutting_batches, fetch_one_batch, fetch_above_the_level_end};
+ghost use Rattle.read_laws.specs.Fetches.{LogsHaveBytes, TellsNoError, ServesTheNextBatch, ServesNothingElse, ServesWholeBatches, ServesAllThatFit, ServesWithinLimits, IsOnlyFetch};
+ghost use Rattle.read_laws.specs.WrongFetches.{fetch_always_out_of_range, fetch_answering_nobody, fetch_as_committed, fetch_as_uncommitted, fetch_after_the_offset, fetch_without_a_large_batch, fetch_one_partition, fetch_without_the_last_batch, fetch_cutting_batches, fetch_one_batch, fetch_above_the_level_end, fetch_never_used_up, fetch_without_a_partition_limit};
 ghost use Rattle.read_laws.specs.ListOffsets.{TellsTheLatest, TellsTheEarliest};
 ghost use Rattle.read_laws.specs.WrongListOffsets.{list_always_invalid, list_as_committed, list_as_uncommitted, list_other_end};
 
@@ -30,13 +30,18 @@ pub fn fetches_succeed()
 {}
 
 /// A Fetch is served whole batches that follow one another in the log, up to its end or, for read_committed, up to the last stable
-/// offset: as many as max_bytes of the partition and of the request leave room for.
+/// offset: as many as max_bytes of the partition and of the request leave room for, and no more, but for a first batch that is
+/// larger. These laws, with that of the next batch, leave nothing open: every rule that has them serves the same.
 pub fn fetches_serve_whole_batches()
     ensures whole { ServesWholeBatches fetch_outcome }
     ensures whole_not_cut { ¬ ServesWholeBatches fetch_cutting_batches }
     ensures whole_below_the_level_end { ¬ ServesWholeBatches fetch_above_the_level_end }
     ensures fitting { ServesAllThatFit fetch_outcome }
     ensures fitting_not_one_alone { ¬ ServesAllThatFit fetch_one_batch }
+    ensures within { ServesWithinLimits fetch_outcome }
+    ensures within_what_is_left { ¬ ServesWithinLimits fetch_never_used_up }
+    ensures within_the_partition_limit { ¬ ServesWithinLimits fetch_without_a_partition_limit }
+    ensures alone { IsOnlyFetch fetch_outcome }
 {}
 
 /// A ListOffsets of a partition that the caller may DESCRIBE is told no error. The latest offset (timestamp -1) is the log's end,
