@@ -24,7 +24,7 @@ use Rattle.partition_log.specs.declared.served.Served.{Served}
 use Rattle.partition_log.specs.Log.{IsGapless, end_of}
 use Rattle.partition_log.specs.Fetch.{batches_from, batches_below, fitting_batches, at_least_one, limit_of, run_of, served_of}
 use Rattle.partition_log.specs.Laws.{total_bytes}
-use Rattle.partition_log.proofs.Numbers.{le_true, le_false, lt_false, le_is, le_is_not, or_false}
+use Rattle.partition_log.proofs.Numbers.{le_true, le_false, lt_true, lt_false, le_is, le_is_not, or_false}
 use Rattle.msg_data.specs.declared.isolation.Isolation.{Isolation}
 use Rattle.msg_data.specs.declared.isolation.Isolation.TheVariants.{ReadUncommitted, ReadCommitted}
 use Rattle.msg_data.specs.declared.fetch.FetchRequest.{FetchRequest}
@@ -34,7 +34,7 @@ use Rattle.walk.specs.Rule.{PartRule, refusal_of}
 use Rattle.walk.specs.Walk.{answers}
 use Rattle.walk.specs.Woven.{has_any}
 use Rattle.walk.specs.Steps.{answer_by, world_by, parts_world, parts_answers, topics_answers}
-use Rattle.walk.specs.Headline.{element_at}
+use Rattle.walk.specs.Headline.{element_at, world_before}
 use Rattle.walk.proofs.Weaving.{woven}
 use Rattle.walk.proofs.Headlines.{answers_each_part}
 use Rattle.data_handlers.specs.declared.fetch_budget.FetchBudget.{FetchBudget}
@@ -44,7 +44,7 @@ use Rattle.broker_world.specs.First.{non_negative}
 use Rattle.broker_world.specs.Partitions.{AreLogs}
 use Rattle.broker_world.specs.Logs.{log_in, log_of, log_at, HoldLogs}
 use Rattle.data_handlers.specs.Fetch.{budget_for, budget_after_batches, is_outside, served_by, served_at, batch_bytes, fetched_partition, budget_after, fetch_rule, whole_budget, fetch_outcome}
-use Rattle.read_laws.specs.Fetches.{at_place, partition_in, records_of, records_before, BeginsWith, MayRead, IsReadable, level_end, IsNextBatch, bytes_of, FirstReaches, IsRunFrom, IsWithinLimits, ServesWithinLimits, HasFetchLaws, IsOnlyFetch, FetchRule, topics_fetched, IsFetched, HasRoom, HaveBytes, LogsHaveBytes, TellsNoError, ServesTheNextBatch, ServesNothingElse, ServesWholeBatches, ServesAllThatFit}
+use Rattle.read_laws.specs.Fetches.{at_place, partition_in, records_of, records_before, BeginsWith, MayRead, IsReadable, level_end, IsNextBatch, bytes_of, FirstReaches, IsRunFrom, IsWithinLimits, ServesWithinLimits, IsAllowed, IsToldError, TellsOutOfRange, TellsMissing, HasFetchLaws, IsOnlyFetch, FetchRule, topics_fetched, IsFetched, HasRoom, HaveBytes, LogsHaveBytes, TellsNoError, ServesTheNextBatch, ServesNothingElse, ServesWholeBatches, ServesAllThatFit}
 
 same_element : {X : Type 0} (x y : X) → Some x ≡ Some y → x ≡ y
 same_element x y h = cc
@@ -580,6 +580,56 @@ serves_within_limits w caller r i j p log have is =
 
 pub has_fetch_laws : HasFetchLaws fetch_outcome
 has_fetch_laws = record { next = serves_the_next_batch; whole = serves_whole_batches; fitting = serves_all_that_fit; within = serves_within_limits }
+
+-- ---- errors
+
+-- it is answered by what is served of it, by whatever budget was left
+record IsServedBy (w : World) (caller : Caller) (r : FetchRequest) (i j : ℕ) (name : List ℕ) (p : FetchPartition) : Type 0 where
+  budget : FetchBudget
+  is : at_place (all_told w caller r) i j ≡ Some (fetched_partition r.isolation p (served_by r.isolation budget p (log_at w.topics name p.index)))
+
+allowed : (w : World) (caller : Caller) (r : FetchRequest) (i j : ℕ) (topic : Topic FetchPartition) (p : FetchPartition) → IsAllowed w caller r i j topic p → IsServedBy w caller r i j topic.name p
+allowed w caller r i j topic p is =
+    let placed = answers_each_part.places (api w caller r) (rules_of w) (whole_budget r) r.topics i topic is.named in
+    let budget : FetchBudget = world_before (api w caller r) (rules_of w) (whole_budget r) r.topics i topic j in
+    record {
+      budget = budget;
+      is = ap (partition_in j) placed.1.0 ∙ placed.1.1.places j p is.asked ∙ ap (λ (o : Option Refusal). Some (answer_by (api w caller r) o budget topic.name p)) (granted w caller r topic.name p is.may_read);
+    }
+
+error_told : (number : ℕ) (code : ErrorCode) (w : World) (caller : Caller) (r : FetchRequest) (i j : ℕ) (name : List ℕ) (p : FetchPartition) (by : IsServedBy w caller r i j name p) → served_by r.isolation by.budget p (log_at w.topics name p.index) ≡ Err code → number_of code ≡ pos number → IsToldError number (fetch_outcome w caller r) i j
+error_told number code w caller r i j name p by is numbered = record {
+  answer = fetched_partition r.isolation p (Err code);
+  told = by.is ∙ ap (λ (s : Result Served ErrorCode). Some (fetched_partition r.isolation p s)) is;
+  error = numbered;
+  none = refl;
+}
+
+outside_is : (log : LogValue) (offset : ℤ) → (offset <ℤ pos 0) ⊎ (end_of log <ℤ offset) → is_outside log offset ≡ true
+outside_is log offset (inl low) = ap (λ (t : Bool). t || int_lt (end_of log) offset) (lt_true offset (pos 0) low)
+outside_is log offset (inr high) = by_low (int_lt offset (pos 0)) (lt_true (end_of log) offset high) where
+  by_low : (t : Bool) → int_lt (end_of log) offset ≡ true → (t || int_lt (end_of log) offset) ≡ true
+  by_low true e = refl
+  by_low false e = e
+
+one_is : number_of codes.OffsetOutOfRange ≡ pos 1
+unfolding number_of
+one_is = refl
+
+three_is : number_of codes.UnknownTopicOrPartition ≡ pos 3
+unfolding number_of
+three_is = refl
+
+pub tells_out_of_range : TellsOutOfRange fetch_outcome
+tells_out_of_range w caller r i j topic p log is there outside =
+    let by = allowed w caller r i j topic p is in
+    error_told 1 codes.OffsetOutOfRange w caller r i j topic.name p by
+    (ap (served_by r.isolation by.budget p) there ∙ ap (λ (t : Bool). cond t (Err codes.OffsetOutOfRange) (Ok (served w caller r log p by.budget))) (outside_is log p.offset outside)) one_is
+
+pub tells_missing : TellsMissing fetch_outcome
+tells_missing w caller r i j topic p is none =
+    let by = allowed w caller r i j topic p is in
+    error_told 3 codes.UnknownTopicOrPartition w caller r i j topic.name p by (ap (served_by r.isolation by.budget p) none) three_is
 
 -- ---- nothing is left open
 

@@ -15,9 +15,9 @@ use Rattle.msg_data.specs.declared.fetch.FetchedRecords.{FetchedRecords}
 use Rattle.txn_coordinator.specs.Coordinator.{no_transactions}
 use Rattle.broker_world.specs.World.{World, LogValue}
 use Rattle.broker_world.specs.HandlerResult.{HandlerResult}
-use Rattle.read_laws.specs.Fetches.{at_place, topics_fetched, IsFetched, BeginsWith, IsReadable, IsNextBatch, bytes_of, IsRunFrom, IsWithinLimits, ServesWithinLimits, TellsNoError, ServesTheNextBatch, ServesNothingElse, ServesWholeBatches, ServesAllThatFit}
+use Rattle.read_laws.specs.Fetches.{at_place, topics_fetched, IsFetched, BeginsWith, IsReadable, IsNextBatch, bytes_of, IsRunFrom, IsWithinLimits, ServesWithinLimits, TellsOutOfRange, TellsMissing, TellsNoError, ServesTheNextBatch, ServesNothingElse, ServesWholeBatches, ServesAllThatFit}
 use Rattle.read_laws.proofs.Fetches.{log_has}
-use Rattle.read_laws.specs.WrongFetches.{fetch_always_out_of_range, fetch_answering_nobody, fetch_as_committed, fetch_as_uncommitted, fetch_after_the_offset, fetch_without_a_large_batch, fetch_one_partition, fetch_without_the_last_batch, fetch_cutting_batches, fetch_one_batch, fetch_above_the_level_end, fetch_never_used_up, fetch_without_a_partition_limit}
+use Rattle.read_laws.specs.WrongFetches.{fetch_always_out_of_range, fetch_answering_nobody, fetch_as_committed, fetch_as_uncommitted, fetch_after_the_offset, fetch_without_a_large_batch, fetch_one_partition, fetch_without_the_last_batch, fetch_cutting_batches, fetch_one_batch, fetch_above_the_level_end, fetch_never_used_up, fetch_without_a_partition_limit, fetch_never_an_error, fetch_out_of_range_at_the_end}
 
 -- ---- a topic `a` with partitions of such logs, of which the super user `root` asks
 
@@ -287,3 +287,35 @@ within_the_partition_limit law =
     above_three (records_are _ 0 0 (IsWithinLimits in_three three (plain ∷ second ∷ []) 0) (1 ∷ 2 ∷ 3 ∷ 4 ∷ 5 ∷ 6 ∷ [])
     (law two root in_three 0 0 three (plain ∷ second ∷ []) (log_has two.topics (((omega arith, (omega arith, tt)), tt), tt))
     (record { topic = record { name = bytes "a"; partitions = three ∷ [] }; named = refl; asked = refl; may_read = refl; there = refl; from_start = record { le = tt }; to_end = record { le = tt } })) refl)
+
+-- ---- errors
+
+abbrev from : ℤ → FetchPartition
+from offset = record { index = pos 0; offset = offset; max_bytes = pos 100 }
+
+pub no_error_at_the_end : ¬ TellsNoError fetch_out_of_range_at_the_end
+unfolding number_of
+no_error_at_the_end law =
+    let told = law world root (asks ReadUncommitted (pos 100) (from (pos 1) ∷ [])) 0 0 (from (pos 1)) (plain ∷ [])
+    (record { topic = record { name = bytes "a"; partitions = from (pos 1) ∷ [] }; named = refl; asked = refl; may_read = refl; there = refl; from_start = record { le = tt }; to_end = record { le = tt } })
+    in
+    let clash : ◌≡◌ {A = ℤ} (pos 1) (pos 0) = ap code_in told.told ∙ told.error in
+    cc
+
+pub out_of_range_is_told : ¬ TellsOutOfRange fetch_never_an_error
+unfolding number_of
+out_of_range_is_told law =
+    let told = law world root (asks ReadUncommitted (pos 100) (from (pos 2) ∷ [])) 0 0 (record { name = bytes "a"; partitions = from (pos 2) ∷ [] }) (from (pos 2)) (plain ∷ [])
+    (record { named = refl; asked = refl; may_read = refl }) refl (inr (record { lt = tt }))
+    in
+    let clash : ◌≡◌ {A = ℤ} (pos 0) (pos 1) = ap code_in told.told ∙ told.error in
+    cc
+
+pub missing_is_told : ¬ TellsMissing fetch_never_an_error
+unfolding number_of
+missing_is_told law =
+    let told = law (holding []) root (asks ReadUncommitted (pos 100) (from (pos 0) ∷ [])) 0 0 (record { name = bytes "a"; partitions = from (pos 0) ∷ [] }) (from (pos 0))
+    (record { named = refl; asked = refl; may_read = refl }) refl
+    in
+    let clash : ◌≡◌ {A = ℤ} (pos 0) (pos 3) = ap code_in told.told ∙ told.error in
+    cc

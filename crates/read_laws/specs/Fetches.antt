@@ -203,6 +203,38 @@ ServesWithinLimits fetch =
     → IsFetched (fetch w caller r) i j
     (IsWithinLimits r p log (length (records_before (topics_fetched (fetch w caller r).reply) i j)))
 
+-- ---- what is told else
+
+-- the request asks for this partition at the place, and the caller may READ its topic
+pub record IsAllowed (w : World) (caller : Caller) (r : FetchRequest) (i j : ℕ)
+    (topic : Topic FetchPartition) (p : FetchPartition) : Type 0 where
+  pub named : element_at r.topics i ≡ Some topic
+  pub asked : element_at topic.partitions j ≡ Some p
+  pub may_read : MayRead w caller topic.name
+
+-- the partition at the place is answered the error of this number, and no records
+pub record IsToldError (number : ℕ) (outcome : HandlerResult) (i j : ℕ) : Type 0 where
+  pub answer : FetchedRecords
+  pub told : at_place (topics_fetched outcome.reply) i j ≡ Some answer
+  pub error : number_of answer.error ≡ pos number
+  pub none : answer.records ≡ []
+
+-- an offset before the log or after its end is OFFSET_OUT_OF_RANGE (1)
+abbrev pub TellsOutOfRange : FetchRule → Type 0
+TellsOutOfRange fetch =
+    (w : World) (caller : Caller) (r : FetchRequest) (i j : ℕ) (topic : Topic FetchPartition)
+    (p : FetchPartition) (log : LogValue)
+    → IsAllowed w caller r i j topic p → log_at w.topics topic.name p.index ≡ Some log
+    → (p.offset <ℤ pos 0) ⊎ (end_of log <ℤ p.offset) → IsToldError 1 (fetch w caller r) i j
+
+-- a partition that isn't there is UNKNOWN_TOPIC_OR_PARTITION (3)
+abbrev pub TellsMissing : FetchRule → Type 0
+TellsMissing fetch =
+    (w : World) (caller : Caller) (r : FetchRequest) (i j : ℕ) (topic : Topic FetchPartition)
+    (p : FetchPartition)
+    → IsAllowed w caller r i j topic p → log_at w.topics topic.name p.index ≡ None
+    → IsToldError 3 (fetch w caller r) i j
+
 -- ---- what they leave open
 
 -- the four laws of what is served

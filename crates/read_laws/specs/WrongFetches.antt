@@ -1,10 +1,12 @@
 -- Wrong rules for a Fetch, each of which a law refutes.
-use Rattle.std.specs.Prelude.{ℤ, ℕ, pos, negsuc, ◌+ℤ◌, true, not, List, [], map, Option, Some, None, Result, Ok, Err, if◌then◌else◌, take}
+use Rattle.std.specs.Prelude.{Bool, ◌||◌, ℤ, ℕ, pos, negsuc, ◌+ℤ◌, true, not, List, [], map, Option, Some, None, Result, Ok, Err, if◌then◌else◌, take}
 use Rattle.std.proofs.Common.{zero-le}
 use Rattle.wire_types.specs.declared.error_code.ErrorCode.{ErrorCode}
 use Rattle.wire_types.specs.declared.error_code.ErrorCode.TheVariants as codes
 use Rattle.wire_types.specs.declared.topic.Topic.{Topic}
 use Rattle.partition_log.specs.declared.served.Served.{Served}
+use Rattle.std.specs.Ordering.{int_eq}
+use Rattle.partition_log.specs.Log.{end_of}
 use Rattle.partition_log.specs.Fetch.{batches_from, batches_below, limit_of, served_batches, served_of}
 use Rattle.msg_data.specs.declared.isolation.Isolation.{Isolation}
 use Rattle.msg_data.specs.declared.isolation.Isolation.TheVariants.{ReadUncommitted, ReadCommitted}
@@ -207,3 +209,33 @@ fetch_without_a_partition_limit w caller r =
           { partitions = map (without_limit r.max_bytes) t.partitions })
           r.topics;
     })
+
+-- wrong: each partition is told no error, also one that isn't there, and where the offset is
+-- outside the log
+abbrev pub fetch_never_an_error : FetchRule
+fetch_never_an_error w caller r =
+    let o = fetch_outcome w caller r in
+    record o {
+      reply = with_topics (each_partition (λ told. record told { error = codes.None })) o.reply;
+    }
+
+abbrev pub at_the_end : LogValue → ℤ → Bool
+at_the_end log offset = is_outside log offset || int_eq offset (end_of log)
+
+abbrev pub served_before_end : Isolation → FetchBudget → FetchPartition → Option LogValue
+    → Result Served ErrorCode
+served_before_end level budget p None = Err codes.UnknownTopicOrPartition
+served_before_end level budget p (Some log) =
+    if at_the_end log p.offset then Err codes.OffsetOutOfRange
+    else Ok (served_of log p.offset level (budget_for budget p) (not budget.given))
+
+-- wrong: the log's end is out of range, where a consumer waits for what comes next
+abbrev pub fetch_out_of_range_at_the_end : FetchRule
+fetch_out_of_range_at_the_end w caller r =
+    fetch_by
+    (record (fetch_rule caller r.isolation w.topics) {
+      plain = λ budget name p.
+          fetched_partition r.isolation p
+          (served_before_end r.isolation budget p (log_at w.topics name p.index));
+    })
+    (whole_budget r) w r

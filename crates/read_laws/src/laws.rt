@@ -4,8 +4,8 @@ ghost use Rattle.data_handlers.specs.Fetch.{fetch_outcome};
 ghost use Rattle.data_handlers.specs.ListOffsets.{list_offsets_outcome};
 ghost use Rattle.broker_world.specs.World.{World};
 ghost use Rattle.broker_world.specs.Logs.{HoldLogs};
-ghost use Rattle.read_laws.specs.Fetches.{LogsHaveBytes, TellsNoError, ServesTheNextBatch, ServesNothingElse, ServesWholeBatches, ServesAllThatFit, ServesWithinLimits, IsOnlyFetch};
-ghost use Rattle.read_laws.specs.WrongFetches.{fetch_always_out_of_range, fetch_answering_nobody, fetch_as_committed, fetch_as_uncommitted, fetch_after_the_offset, fetch_without_a_large_batch, fetch_one_partition, fetch_without_the_last_batch, fetch_cutting_batches, fetch_one_batch, fetch_above_the_level_end, fetch_never_used_up, fetch_without_a_partition_limit};
+ghost use Rattle.read_laws.specs.Fetches.{LogsHaveBytes, TellsNoError, ServesTheNextBatch, ServesNothingElse, ServesWholeBatches, ServesAllThatFit, ServesWithinLimits, TellsOutOfRange, TellsMissing, IsOnlyFetch};
+ghost use Rattle.read_laws.specs.WrongFetches.{fetch_always_out_of_range, fetch_answering_nobody, fetch_as_committed, fetch_as_uncommitted, fetch_after_the_offset, fetch_without_a_large_batch, fetch_one_partition, fetch_without_the_last_batch, fetch_cutting_batches, fetch_one_batch, fetch_above_the_level_end, fetch_never_used_up, fetch_without_a_partition_limit, fetch_never_an_error, fetch_out_of_range_at_the_end};
 ghost use Rattle.read_laws.specs.ListOffsets.{TellsTheLatest, TellsTheEarliest};
 ghost use Rattle.read_laws.specs.WrongListOffsets.{list_always_invalid, list_as_committed, list_as_uncommitted, list_other_end};
 
@@ -17,6 +17,7 @@ pub fn fetches_succeed()
     ensures no_error { TellsNoError fetch_outcome }
     ensures no_error_not_out_of_range { ¬ TellsNoError fetch_always_out_of_range }
     ensures no_error_not_unanswered { ¬ TellsNoError fetch_answering_nobody }
+    ensures no_error_at_the_end { ¬ TellsNoError fetch_out_of_range_at_the_end }
     ensures next { ServesTheNextBatch fetch_outcome }
     ensures next_not_out_of_range { ¬ ServesTheNextBatch fetch_always_out_of_range }
     ensures next_also_large { ¬ ServesTheNextBatch fetch_without_a_large_batch }
@@ -42,6 +43,15 @@ pub fn fetches_serve_whole_batches()
     ensures within_what_is_left { ¬ ServesWithinLimits fetch_never_used_up }
     ensures within_the_partition_limit { ¬ ServesWithinLimits fetch_without_a_partition_limit }
     ensures alone { IsOnlyFetch fetch_outcome }
+{}
+
+/// A Fetch from an offset before the log or after its end is told OFFSET_OUT_OF_RANGE (1), and one from a partition that isn't there
+/// UNKNOWN_TOPIC_OR_PARTITION (3), with no records.
+pub fn fetches_fail_rightly()
+    ensures out_of_range { TellsOutOfRange fetch_outcome }
+    ensures out_of_range_is_told { ¬ TellsOutOfRange fetch_never_an_error }
+    ensures missing { TellsMissing fetch_outcome }
+    ensures missing_is_told { ¬ TellsMissing fetch_never_an_error }
 {}
 
 /// A ListOffsets of a partition that the caller may DESCRIBE is told no error. The latest offset (timestamp -1) is the log's end,

@@ -4,4 +4,6 @@
 
 mod laws;
 
-pub use laws::{fetches_serve_whole_batches, fetches_succeed, list_offsets_succeeds};
+pub use laws::{
+    fetches_fail_rightly, fetches_serve_whole_batches, fetches_succeed, list_offsets_succeeds,
+};

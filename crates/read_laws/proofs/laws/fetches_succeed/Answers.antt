@@ -40,3 +40,6 @@ returns-clause-else_nothing_of_level c = wrong.else_nothing_of_level
 
 pub returns-clause-bytes : goal.returns-clause-bytes
 returns-clause-bytes c = worlds_have
+
+pub returns-clause-no_error_at_the_end : goal.returns-clause-no_error_at_the_end
+returns-clause-no_error_at_the_end c = wrong.no_error_at_the_end
