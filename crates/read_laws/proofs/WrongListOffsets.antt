@@ -1,5 +1,7 @@
 -- The wrong rules for a ListOffsets are refuted, each in a worked world.
 use Rattle.std.proofs.Common.{◌≡◌, ℕ, ℤ, pos, negsuc, [], ◌∷◌, Option, Some, None, refl, sym, ap, ◌∙◌, codes as bytes}
+use Rattle.wire_types.specs.declared.topic.Topic.{Topic}
+use Rattle.wire_types.specs.ErrorCode.{number_of}
 use Rattle.msg_data.specs.declared.isolation.Isolation.{Isolation}
 use Rattle.msg_data.specs.declared.isolation.Isolation.TheVariants.{ReadUncommitted, ReadCommitted}
 use Rattle.msg_data.specs.declared.list_offsets.ListOffsetsRequest.{ListOffsetsRequest}
@@ -8,8 +10,8 @@ use Rattle.msg_data.specs.declared.list_offsets.FoundOffset.{FoundOffset}
 use Rattle.broker_world.specs.World.{LogValue}
 use Rattle.broker_world.specs.HandlerResult.{HandlerResult}
 use Rattle.read_laws.specs.Fetches.{at_place}
-use Rattle.read_laws.specs.ListOffsets.{topics_listed, IsListed, IsListable, TellsTheLatest, TellsTheEarliest}
-use Rattle.read_laws.specs.WrongListOffsets.{list_always_invalid, list_as_committed, list_as_uncommitted, list_other_end}
+use Rattle.read_laws.specs.ListOffsets.{topics_listed, IsListed, IsListable, TellsInvalidTimestamp, TellsUnlisted, TellsTheLatest, TellsTheEarliest}
+use Rattle.read_laws.specs.WrongListOffsets.{list_always_invalid, list_as_committed, list_as_uncommitted, list_other_end, list_never_an_error}
 use Rattle.read_laws.proofs.WrongFetches.{root, holding, plain, unended, world, open_world}
 
 abbrev wants : ℤ → WantedOffset
@@ -68,4 +70,33 @@ pub earliest_not_latest : ¬ TellsTheEarliest list_other_end
 earliest_not_latest law =
     let told = law world root (asks ReadUncommitted (negsuc 1)) 0 0 (wants (negsuc 1)) (plain ∷ []) (listable ReadUncommitted (negsuc 1) (plain ∷ [])) refl in
     let clash : ◌≡◌ {A = ℤ} (pos 1) (pos 0) = offset_is _ 0 0 (pos 0) (pos 1) told refl in
+    cc
+
+-- ---- errors
+
+abbrev code_in : Option FoundOffset → ℤ
+code_in None = negsuc 9
+code_in (Some told) = number_of told.error
+
+abbrev named : ℤ → Topic WantedOffset
+named timestamp = record { name = bytes "a"; partitions = wants timestamp ∷ [] }
+
+timestamp_differs : (n : ℤ) → n ≡ pos 7 → n ≡ negsuc 0 → ⊥
+timestamp_differs n is other = let clash : pos 7 ≡ negsuc 0 = sym is ∙ other in cc
+
+timestamp_differs_too : (n : ℤ) → n ≡ pos 7 → n ≡ negsuc 1 → ⊥
+timestamp_differs_too n is other = let clash : pos 7 ≡ negsuc 1 = sym is ∙ other in cc
+
+pub invalid_is_told : ¬ TellsInvalidTimestamp list_never_an_error
+unfolding number_of
+invalid_is_told law =
+    let told = law world root (asks ReadUncommitted (pos 7)) 0 0 (named (pos 7)) (wants (pos 7)) (plain ∷ []) (record { named = refl; asked = refl; may_describe = refl }) refl (timestamp_differs (pos 7) refl) (timestamp_differs_too (pos 7) refl) in
+    let clash : ◌≡◌ {A = ℤ} (pos 0) (pos 42) = ap code_in told.told ∙ told.error in
+    cc
+
+pub missing_is_told : ¬ TellsUnlisted list_never_an_error
+unfolding number_of
+missing_is_told law =
+    let told = law (holding []) root (asks ReadUncommitted (negsuc 0)) 0 0 (named (negsuc 0)) (wants (negsuc 0)) (record { named = refl; asked = refl; may_describe = refl }) refl in
+    let clash : ◌≡◌ {A = ℤ} (pos 0) (pos 3) = ap code_in told.told ∙ told.error in
     cc

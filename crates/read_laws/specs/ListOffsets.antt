@@ -1,7 +1,7 @@
 -- What a ListOffsets is answered that may succeed (Kafka protocol guide, "ListOffsets API (Key:
 -- 2)": the timestamp -1 asks for the latest offset, -2 for the earliest; KIP-98 for the isolation
 -- levels).
-use Rattle.std.specs.Prelude.{◌≡◌, ℕ, ℤ, pos, negsuc, List, [], Some}
+use Rattle.std.specs.Prelude.{◌≡◌, ℕ, ℤ, pos, negsuc, List, [], Some, None}
 use Rattle.acl_binding.specs.declared.question.Caller.{Caller}
 use Rattle.acl_binding.specs.declared.question.Verdict.TheVariants.{Yes}
 use Rattle.acl_binding.specs.declared.words.Kind.TheVariants as kinds
@@ -67,3 +67,36 @@ TellsTheEarliest list =
     (log : LogValue)
     → IsListable w caller r i j p log → p.timestamp ≡ negsuc 1
     → IsListed (list w caller r) i j (pos 0)
+
+-- ---- what is told else
+
+-- the request asks for this partition at the place, and the caller may DESCRIBE its topic
+pub record IsAllowed (w : World) (caller : Caller) (r : ListOffsetsRequest) (i j : ℕ)
+    (topic : Topic WantedOffset) (p : WantedOffset) : Type 0 where
+  pub named : element_at r.topics i ≡ Some topic
+  pub asked : element_at topic.partitions j ≡ Some p
+  pub may_describe : MayDescribe w caller topic.name
+
+-- the partition at the place is answered the error of this number, and no offset
+pub record IsUnlisted (number : ℕ) (outcome : HandlerResult) (i j : ℕ) : Type 0 where
+  pub answer : FoundOffset
+  pub told : at_place (topics_listed outcome.reply) i j ≡ Some answer
+  pub error : number_of answer.error ≡ pos number
+  pub none : answer.offset ≡ negsuc 0
+
+-- any other timestamp is INVALID_REQUEST (42): timestamps aren't looked up
+abbrev pub TellsInvalidTimestamp : ListRule → Type 0
+TellsInvalidTimestamp list =
+    (w : World) (caller : Caller) (r : ListOffsetsRequest) (i j : ℕ) (topic : Topic WantedOffset)
+    (p : WantedOffset) (log : LogValue)
+    → IsAllowed w caller r i j topic p → log_at w.topics topic.name p.index ≡ Some log
+    → (p.timestamp ≡ negsuc 0 → ⊥) → (p.timestamp ≡ negsuc 1 → ⊥)
+    → IsUnlisted 42 (list w caller r) i j
+
+-- a partition that isn't there is UNKNOWN_TOPIC_OR_PARTITION (3)
+abbrev pub TellsUnlisted : ListRule → Type 0
+TellsUnlisted list =
+    (w : World) (caller : Caller) (r : ListOffsetsRequest) (i j : ℕ) (topic : Topic WantedOffset)
+    (p : WantedOffset)
+    → IsAllowed w caller r i j topic p → log_at w.topics topic.name p.index ≡ None
+    → IsUnlisted 3 (list w caller r) i j

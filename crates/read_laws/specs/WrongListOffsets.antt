@@ -1,5 +1,5 @@
 -- Wrong rules for a ListOffsets, each of which a law refutes.
-use Rattle.std.specs.Prelude.{negsuc, map, if◌then◌else◌}
+use Rattle.std.specs.Prelude.{pos, negsuc, map, if◌then◌else◌}
 use Rattle.std.specs.Ordering.{int_eq}
 use Rattle.wire_types.specs.declared.error_code.ErrorCode.TheVariants as codes
 use Rattle.wire_types.specs.declared.topic.Topic.{Topic}
@@ -57,3 +57,13 @@ list_other_end w caller r =
           map (λ (t : Topic WantedOffset). record t { partitions = map other_end t.partitions })
           r.topics;
     })
+
+abbrev pub the_start : FoundOffset → FoundOffset
+the_start told =
+    if int_eq told.offset (negsuc 0) then record told { error = codes.None; offset = pos 0 }
+    else told
+
+-- wrong: whatever has no offset is told the offset 0, and no error
+abbrev pub list_never_an_error : ListRule
+list_never_an_error w caller r =
+    let o = list_offsets_outcome w caller r in record o { reply = each_listed the_start o.reply }

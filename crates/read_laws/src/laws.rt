@@ -6,8 +6,8 @@ ghost use Rattle.broker_world.specs.World.{World};
 ghost use Rattle.broker_world.specs.Logs.{HoldLogs};
 ghost use Rattle.read_laws.specs.Fetches.{LogsHaveBytes, TellsNoError, ServesTheNextBatch, ServesNothingElse, ServesWholeBatches, ServesAllThatFit, ServesWithinLimits, TellsOutOfRange, TellsMissing, IsOnlyFetch};
 ghost use Rattle.read_laws.specs.WrongFetches.{fetch_always_out_of_range, fetch_answering_nobody, fetch_as_committed, fetch_as_uncommitted, fetch_after_the_offset, fetch_without_a_large_batch, fetch_one_partition, fetch_without_the_last_batch, fetch_cutting_batches, fetch_one_batch, fetch_above_the_level_end, fetch_never_used_up, fetch_without_a_partition_limit, fetch_never_an_error, fetch_out_of_range_at_the_end};
-ghost use Rattle.read_laws.specs.ListOffsets.{TellsTheLatest, TellsTheEarliest};
-ghost use Rattle.read_laws.specs.WrongListOffsets.{list_always_invalid, list_as_committed, list_as_uncommitted, list_other_end};
+ghost use Rattle.read_laws.specs.ListOffsets.{TellsTheLatest, TellsTheEarliest, TellsInvalidTimestamp, TellsUnlisted};
+ghost use Rattle.read_laws.specs.WrongListOffsets.{list_always_invalid, list_as_committed, list_as_uncommitted, list_other_end, list_never_an_error};
 
 /// A Fetch from a partition that the caller may READ is told no error at any offset from 0 to the log's end. The answer begins with
 /// the first batch that ends after the offset, up to the log's end or, for read_committed, up to the last stable offset: whatever
@@ -65,4 +65,13 @@ pub fn list_offsets_succeeds()
     ensures earliest { TellsTheEarliest list_offsets_outcome }
     ensures earliest_not_invalid { ¬ TellsTheEarliest list_always_invalid }
     ensures earliest_not_latest { ¬ TellsTheEarliest list_other_end }
+{}
+
+/// A ListOffsets with any other timestamp is told INVALID_REQUEST (42), and one of a partition that isn't there
+/// UNKNOWN_TOPIC_OR_PARTITION (3), with no offset.
+pub fn list_offsets_fails_rightly()
+    ensures invalid { TellsInvalidTimestamp list_offsets_outcome }
+    ensures invalid_is_told { ¬ TellsInvalidTimestamp list_never_an_error }
+    ensures missing { TellsUnlisted list_offsets_outcome }
+    ensures missing_is_told { ¬ TellsUnlisted list_never_an_error }
 {}

@@ -5,5 +5,6 @@
 mod laws;
 
 pub use laws::{
-    fetches_fail_rightly, fetches_serve_whole_batches, fetches_succeed, list_offsets_succeeds,
+    fetches_fail_rightly, fetches_serve_whole_batches, fetches_succeed, list_offsets_fails_rightly,
+    list_offsets_succeeds,
 };
