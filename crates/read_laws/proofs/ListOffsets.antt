@@ -44,7 +44,7 @@ module _ (w : World) (caller : Caller) (r : ListOffsetsRequest) where
       ∙ ap (λ (o : Option LogValue). Some (listed_offset_by r.isolation p o)) is.there
 
   offset_listed : (i j : ℕ) (p : WantedOffset) (log : LogValue) (offset : ℤ) → IsListable w caller r i j p log → listed_in r.isolation log p ≡ listed_at offset p → IsListed (list_offsets_outcome w caller r) i j offset
-  offset_listed i j p log offset is told = record { answer = listed_at offset p; told = listed i j p log is ∙ ap (λ (x : FoundOffset). Some x) told; error = zero_is; at = refl }
+  offset_listed i j p log offset is told = record { answer = listed_at offset p; told = listed i j p log is ∙ ap (λ (x : FoundOffset). Some x) told; error = zero_is; timestamp = refl; at = refl }
 
 abbrev by_timestamp : Isolation → LogValue → WantedOffset → ℤ → FoundOffset
 by_timestamp level log p timestamp =
@@ -90,6 +90,7 @@ tells_invalid_timestamp w caller r i j topic p log is there latest earliest =
           ∙ ap (λ (t : Bool). Some (cond t (listed_at (limit_of r.isolation log) p) (cond (int_eq p.timestamp (negsuc 1)) (listed_at (pos 0) p) (listed_error codes.InvalidRequest p)))) first
           ∙ ap (λ (t : Bool). Some (cond t (listed_at (pos 0) p) (listed_error codes.InvalidRequest p))) second;
       error = forty_two;
+      timestamp = refl;
       none = refl;
     }
 
@@ -98,5 +99,6 @@ tells_missing w caller r i j topic p is none = record {
   answer = listed_error codes.UnknownTopicOrPartition p;
   told = allowed w caller r i j topic p is ∙ ap (λ (o : Option LogValue). Some (listed_offset_by r.isolation p o)) none;
   error = three_is;
+  timestamp = refl;
   none = refl;
 }

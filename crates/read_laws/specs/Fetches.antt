@@ -205,6 +205,21 @@ ServesWithinLimits fetch =
 
 -- ---- what is told else
 
+-- Beside the records stand the partition's index, the high watermark, which on one node is the
+-- log's end, and the last stable offset.
+pub record TellsOf (p : FetchPartition) (log : LogValue) (outcome : HandlerResult) (i j : ℕ)
+    : Type 0 where
+  pub answer : FetchedRecords
+  pub told : at_place (topics_fetched outcome.reply) i j ≡ Some answer
+  pub index : answer.index ≡ p.index
+  pub high_watermark : answer.high_watermark ≡ end_of log
+  pub stable : answer.last_stable_offset ≡ last_stable_offset log
+
+abbrev pub TellsTheHighWatermark : FetchRule → Type 0
+TellsTheHighWatermark fetch =
+    (w : World) (caller : Caller) (r : FetchRequest) (i j : ℕ) (p : FetchPartition) (log : LogValue)
+    → IsReadable w caller r i j p log → TellsOf p log (fetch w caller r) i j
+
 -- the request asks for this partition at the place, and the caller may READ its topic
 pub record IsAllowed (w : World) (caller : Caller) (r : FetchRequest) (i j : ℕ)
     (topic : Topic FetchPartition) (p : FetchPartition) : Type 0 where

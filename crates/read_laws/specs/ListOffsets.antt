@@ -30,11 +30,12 @@ abbrev pub topics_listed : Reply → List (Topic FoundOffset)
 topics_listed (replies.ListOffsets reply) = reply.topics
 topics_listed reply = []
 
--- the partition at the place is answered NONE (0) and this offset
+-- the partition at the place is answered NONE (0) and this offset, with no timestamp (-1)
 pub record IsListed (outcome : HandlerResult) (i j : ℕ) (offset : ℤ) : Type 0 where
   pub answer : FoundOffset
   pub told : at_place (topics_listed outcome.reply) i j ≡ Some answer
   pub error : number_of answer.error ≡ pos 0
+  pub timestamp : answer.timestamp ≡ negsuc 0
   pub at : answer.offset ≡ offset
 
 -- the ACLs in force let the caller DESCRIBE the topic
@@ -82,6 +83,7 @@ pub record IsUnlisted (number : ℕ) (outcome : HandlerResult) (i j : ℕ) : Typ
   pub answer : FoundOffset
   pub told : at_place (topics_listed outcome.reply) i j ≡ Some answer
   pub error : number_of answer.error ≡ pos number
+  pub timestamp : answer.timestamp ≡ negsuc 0
   pub none : answer.offset ≡ negsuc 0
 
 -- any other timestamp is INVALID_REQUEST (42): timestamps aren't looked up

@@ -239,3 +239,12 @@ fetch_out_of_range_at_the_end w caller r =
           (served_before_end r.isolation budget p (log_at w.topics name p.index));
     })
     (whole_budget r) w r
+
+abbrev pub low_watermark : FetchedRecords → FetchedRecords
+low_watermark told = record told { high_watermark = told.last_stable_offset }
+
+-- wrong: the last stable offset is told as the high watermark
+abbrev pub fetch_telling_a_low_watermark : FetchRule
+fetch_telling_a_low_watermark w caller r =
+    let o = fetch_outcome w caller r in
+    record o { reply = with_topics (each_partition low_watermark) o.reply }

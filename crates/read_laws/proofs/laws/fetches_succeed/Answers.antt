@@ -1,4 +1,4 @@
-use Rattle.read_laws.proofs.Fetches.{tells_no_error, serves_the_next_batch, serves_nothing_else, worlds_have}
+use Rattle.read_laws.proofs.Fetches.{tells_no_error, serves_the_next_batch, serves_nothing_else, worlds_have, tells_the_high_watermark}
 use Rattle.read_laws.proofs.WrongFetches as wrong
 use Rattle.read_laws.proofs.laws.fetches_succeed.Goals as goal
 
@@ -43,3 +43,9 @@ returns-clause-bytes c = worlds_have
 
 pub returns-clause-no_error_at_the_end : goal.returns-clause-no_error_at_the_end
 returns-clause-no_error_at_the_end c = wrong.no_error_at_the_end
+
+pub returns-clause-watermark : goal.returns-clause-watermark
+returns-clause-watermark c = tells_the_high_watermark
+
+pub returns-clause-watermark_not_the_stable_offset : goal.returns-clause-watermark_not_the_stable_offset
+returns-clause-watermark_not_the_stable_offset c = wrong.watermark_not_the_stable_offset
