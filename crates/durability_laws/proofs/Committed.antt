@@ -154,7 +154,7 @@ stable_longer log (b ∷ more) h =
 
 -- ---- over events
 
-reached_append : (w : World) (xs ys : List Event) → world_after_events w (xs ++ ys) ≡ world_after_events (world_after_events w xs) ys
+pub reached_append : (w : World) (xs ys : List Event) → world_after_events w (xs ++ ys) ≡ world_after_events (world_after_events w xs) ys
 reached_append w [] ys = refl
 reached_append w (x ∷ xs) ys = reached_append (step w x) xs ys
 

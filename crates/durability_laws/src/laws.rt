@@ -5,6 +5,7 @@ ghost use Rattle.api_dispatch.specs.Step.{outcome};
 ghost use Rattle.durability_laws.specs.Acknowledged.{KeepsWhatIsAcknowledged, KeepsWhatStands};
 ghost use Rattle.durability_laws.specs.Committed.{KeepsWhatIsStable, ServesWhatIsStable};
 ghost use Rattle.durability_laws.specs.ReadBack.{ReadsWhatIsAcknowledged};
+ghost use Rattle.durability_laws.specs.OverATrail.{ReadsBackOverATrail};
 ghost use Rattle.durability_laws.specs.Offsets.{KeepsCommittedOffsets, TellsUnstableOffsets};
 ghost use Rattle.durability_laws.specs.WrongSteps.{step_forgetting_offsets, step_committing_nothing, step_telling_no_offset, step_ignoring_require_stable, step_always_unstable};
 ghost use Rattle.durability_laws.specs.WrongSteps.{step_appending_nothing, step_telling_the_next_offset, step_keeping_the_offset_sent, step_keeping_the_last_batch, step_taking_transactions_out, step_taking_markers_out, step_without_the_last_batch, step_without_a_large_batch, step_fetching_as_committed};
@@ -24,12 +25,13 @@ pub fn acknowledged_records_stay()
 
 /// Where a Produce tells a partition no error and an offset, a Fetch from that offset begins with what was sent, after all later
 /// events, for whoever may READ the topic then: with read_uncommitted at once, and with read_committed once it is below the last
-/// stable offset.
+/// stable offset. So it is of each Produce in the trail of a core.
 pub fn acknowledged_records_are_read()
     ensures read { ReadsWhatIsAcknowledged outcome }
     ensures read_not_dropped { ¬ ReadsWhatIsAcknowledged step_appending_nothing }
     ensures read_also_last { ¬ ReadsWhatIsAcknowledged step_without_the_last_batch }
     ensures read_also_uncommitted { ¬ ReadsWhatIsAcknowledged step_fetching_as_committed }
+    ensures over_a_trail { ReadsBackOverATrail }
 {}
 
 /// What ends at the last stable offset of a partition's log, or below, does so after all later events; and a Fetch of whoever may
