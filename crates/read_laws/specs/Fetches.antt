@@ -196,6 +196,8 @@ IsWithinLimits r p log taken records =
     × ((b : BatchData) × IsNextBatch r.isolation log p.offset b × (records ≡ b.bytes)))
     ⊎ (records ≡ []))
 
+-- what a partition is served has at most the bytes that it and the request ask for, or is the one
+-- batch of an answer that has none before it
 abbrev pub ServesWithinLimits : FetchRule → Type 0
 ServesWithinLimits fetch =
     (w : World) (caller : Caller) (r : FetchRequest) (i j : ℕ) (p : FetchPartition) (log : LogValue)
@@ -215,6 +217,7 @@ pub record TellsOf (p : FetchPartition) (log : LogValue) (outcome : HandlerResul
   pub high_watermark : answer.high_watermark ≡ end_of log
   pub stable : answer.last_stable_offset ≡ last_stable_offset log
 
+-- a partition that may be read is told the end of its log and its last stable offset
 abbrev pub TellsTheHighWatermark : FetchRule → Type 0
 TellsTheHighWatermark fetch =
     (w : World) (caller : Caller) (r : FetchRequest) (i j : ℕ) (p : FetchPartition) (log : LogValue)
