@@ -29,7 +29,7 @@ class Law:
     def __init__(self, crate, function, name):
         self.crate, self.function, self.name = crate, function, name
         self.right, self.wrong = [], []
-        self.is_only = name.startswith("OnlyRuleOf")  # whether it refutes each other rule
+        self.is_only = name.startswith(("OnlyRuleOf", "IsOnly"))  # whether it refutes each other rule
 
 
 def comments_of(crate, module):

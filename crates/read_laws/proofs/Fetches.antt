@@ -44,7 +44,7 @@ use Rattle.broker_world.specs.First.{non_negative}
 use Rattle.broker_world.specs.Partitions.{AreLogs}
 use Rattle.broker_world.specs.Logs.{log_in, log_of, log_at, HoldLogs}
 use Rattle.data_handlers.specs.Fetch.{budget_for, budget_after_batches, is_outside, served_by, served_at, batch_bytes, fetched_partition, budget_after, fetch_rule, whole_budget, fetch_outcome}
-use Rattle.read_laws.specs.Fetches.{at_place, partition_in, records_of, records_before, BeginsWith, MayRead, IsReadable, level_end, IsNextBatch, bytes_of, FirstReaches, IsRunFrom, IsWithinLimits, ServesWithinLimits, IsAllowed, IsToldError, TellsTheHighWatermark, TellsOutOfRange, TellsMissing, HasFetchLaws, IsOnlyFetch, FetchRule, topics_fetched, IsFetched, HasRoom, HaveBytes, LogsHaveBytes, TellsNoError, ServesTheNextBatch, ServesNothingElse, ServesWholeBatches, ServesAllThatFit}
+use Rattle.read_laws.specs.Fetches.{at_place, partition_in, records_of, records_before, BeginsWith, MayRead, IsReadable, level_end, IsNextBatch, bytes_of, FirstReaches, IsRunFrom, IsWithinLimits, ServesWithinLimits, IsAllowed, IsToldError, AnswersEachTopic, TellsTheHighWatermark, TellsOutOfRange, TellsMissing, HasFetchLaws, IsOnlyFetch, FetchRule, topics_fetched, IsFetched, HasRoom, HaveBytes, LogsHaveBytes, TellsNoError, ServesTheNextBatch, ServesNothingElse, ServesWholeBatches, ServesAllThatFit}
 
 same_element : {X : Type 0} (x y : X) → Some x ≡ Some y → x ≡ y
 same_element x y h = cc
@@ -285,6 +285,14 @@ pub tells_no_error : TellsNoError fetch_outcome
 tells_no_error w caller r i j p log is =
     let told = somehow w caller r i j p log is in
     record { answer = fetched_partition r.isolation p (Ok (served w caller r log p told.budget)); told = told.is; error = zero_is; records = tt }
+
+pub answers_each_topic : AnswersEachTopic fetch_outcome
+answers_each_topic = record {
+  number = λ w caller r. answers_each_part.number (api w caller r) (rules_of w) (whole_budget r) r.topics;
+  places = λ w caller r i topic named.
+      let placed = answers_each_part.places (api w caller r) (rules_of w) (whole_budget r) r.topics i topic named in
+      record { answer = placed.0; is = placed.1.0; name = placed.1.1.name; number = placed.1.1.number };
+}
 
 pub tells_the_high_watermark : TellsTheHighWatermark fetch_outcome
 tells_the_high_watermark w caller r i j p log is =

@@ -5,6 +5,7 @@ use Rattle.std.specs.List.{AllByRecursion}
 use Rattle.std.proofs.lemmas.Int.{ints}
 use Rattle.acl_binding.specs.declared.question.Caller.{Caller}
 use Rattle.acl_binding.specs.Book.{empty_book}
+use Rattle.wire_types.specs.declared.topic.Topic.{Topic}
 use Rattle.wire_types.specs.ErrorCode.{number_of}
 use Rattle.record_batch.specs.Batch.{BatchData, next_offset}
 use Rattle.msg_data.specs.declared.isolation.Isolation.{Isolation}
@@ -15,9 +16,9 @@ use Rattle.msg_data.specs.declared.fetch.FetchedRecords.{FetchedRecords}
 use Rattle.txn_coordinator.specs.Coordinator.{no_transactions}
 use Rattle.broker_world.specs.World.{World, LogValue}
 use Rattle.broker_world.specs.HandlerResult.{HandlerResult}
-use Rattle.read_laws.specs.Fetches.{at_place, topics_fetched, IsFetched, BeginsWith, IsReadable, IsNextBatch, bytes_of, IsRunFrom, IsWithinLimits, ServesWithinLimits, TellsTheHighWatermark, TellsOutOfRange, TellsMissing, TellsNoError, ServesTheNextBatch, ServesNothingElse, ServesWholeBatches, ServesAllThatFit}
+use Rattle.read_laws.specs.Fetches.{at_place, topics_fetched, IsFetched, BeginsWith, IsReadable, IsNextBatch, bytes_of, IsRunFrom, IsWithinLimits, ServesWithinLimits, AnswersEachTopic, TellsTheHighWatermark, TellsOutOfRange, TellsMissing, TellsNoError, ServesTheNextBatch, ServesNothingElse, ServesWholeBatches, ServesAllThatFit}
 use Rattle.read_laws.proofs.Fetches.{log_has}
-use Rattle.read_laws.specs.WrongFetches.{fetch_always_out_of_range, fetch_answering_nobody, fetch_as_committed, fetch_as_uncommitted, fetch_after_the_offset, fetch_without_a_large_batch, fetch_one_partition, fetch_without_the_last_batch, fetch_cutting_batches, fetch_one_batch, fetch_above_the_level_end, fetch_never_used_up, fetch_without_a_partition_limit, fetch_never_an_error, fetch_out_of_range_at_the_end, fetch_telling_a_low_watermark}
+use Rattle.read_laws.specs.WrongFetches.{fetch_always_out_of_range, fetch_answering_nobody, fetch_as_committed, fetch_as_uncommitted, fetch_after_the_offset, fetch_without_a_large_batch, fetch_one_partition, fetch_without_the_last_batch, fetch_cutting_batches, fetch_one_batch, fetch_above_the_level_end, fetch_never_used_up, fetch_without_a_partition_limit, fetch_never_an_error, fetch_out_of_range_at_the_end, fetch_telling_a_low_watermark, fetch_without_names}
 
 -- ---- a topic `a` with partitions of such logs, of which the super user `root` asks
 
@@ -328,4 +329,14 @@ pub watermark_not_the_stable_offset : ¬ TellsTheHighWatermark fetch_telling_a_l
 watermark_not_the_stable_offset law =
     let told = law open_world root (one ReadUncommitted (pos 100)) 0 0 (from_start (pos 0)) (unended ∷ []) (readable ReadUncommitted (pos 100) unended refl) in
     let clash : ◌≡◌ {A = ℤ} (pos 0) (pos 1) = ap high_in told.told ∙ told.high_watermark in
+    cc
+
+abbrev name_in : Option (Topic FetchedRecords) → List ℕ
+name_in None = []
+name_in (Some t) = t.name
+
+pub answered_by_name : ¬ AnswersEachTopic fetch_without_names
+answered_by_name law =
+    let told = law.places world root (one ReadUncommitted (pos 100)) 0 (record { name = bytes "a"; partitions = from_start (pos 0) ∷ [] }) refl in
+    let clash : ◌≡◌ {A = List ℕ} [] (97 ∷ []) = ap name_in told.is ∙ told.name in
     cc

@@ -60,6 +60,7 @@ pub record IsFetched (outcome : HandlerResult) (i j : ℕ) (Records : List ℕ �
   pub error : number_of answer.error ≡ pos 0
   pub records : Records answer.records
 
+-- the first bytes of these are those
 abbrev pub BeginsWith : List ℕ → List ℕ → Type 0
 BeginsWith front bytes = (rest : List ℕ) × (bytes ≡ front ++ rest)
 
@@ -130,6 +131,7 @@ HasRoom r p taken size =
 abbrev pub HaveBytes : LogValue → Type 0
 HaveBytes log = AllByRecursion (λ (b : BatchData). 0 < length b.bytes) log
 
+-- so it is of each log that is found
 abbrev pub LogsHaveBytes : List TopicValue → Type 0
 LogsHaveBytes topics =
     (name : List ℕ) (index : ℤ) (log : LogValue) → log_at topics name index ≡ Some log
@@ -206,6 +208,23 @@ ServesWithinLimits fetch =
     (IsWithinLimits r p log (length (records_before (topics_fetched (fetch w caller r).reply) i j)))
 
 -- ---- what is told else
+
+-- a topic's answer has its name, and an answer for each of its partitions
+pub record IsTopicAnswered (topic : Topic FetchPartition) (told : Option (Topic FetchedRecords))
+    : Type 0 where
+  pub answer : Topic FetchedRecords
+  pub is : told ≡ Some answer
+  pub name : answer.name ≡ topic.name
+  pub number : length answer.partitions ≡ length topic.partitions
+
+-- each topic is answered at its place, and nothing else is
+pub record AnswersEachTopic (fetch : FetchRule) : Type 0 where
+  pub number : (w : World) (caller : Caller) (r : FetchRequest)
+      → length (topics_fetched (fetch w caller r).reply) ≡ length r.topics
+  pub places : (w : World) (caller : Caller) (r : FetchRequest) (i : ℕ)
+      (topic : Topic FetchPartition)
+      → element_at r.topics i ≡ Some topic
+      → IsTopicAnswered topic (element_at (topics_fetched (fetch w caller r).reply) i)
 
 -- Beside the records stand the partition's index, the high watermark, which on one node is the
 -- log's end, and the last stable offset.

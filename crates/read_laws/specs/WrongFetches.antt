@@ -248,3 +248,12 @@ abbrev pub fetch_telling_a_low_watermark : FetchRule
 fetch_telling_a_low_watermark w caller r =
     let o = fetch_outcome w caller r in
     record o { reply = with_topics (each_partition low_watermark) o.reply }
+
+abbrev pub without_name : Topic FetchedRecords → Topic FetchedRecords
+without_name told = record told { name = [] }
+
+-- wrong: topics are answered without their names
+abbrev pub fetch_without_names : FetchRule
+fetch_without_names w caller r =
+    let o = fetch_outcome w caller r in
+    record o { reply = with_topics (map without_name) o.reply }

@@ -4,15 +4,15 @@ ghost use Rattle.data_handlers.specs.Fetch.{fetch_outcome};
 ghost use Rattle.data_handlers.specs.ListOffsets.{list_offsets_outcome};
 ghost use Rattle.broker_world.specs.World.{World};
 ghost use Rattle.broker_world.specs.Logs.{HoldLogs};
-ghost use Rattle.read_laws.specs.Fetches.{LogsHaveBytes, TellsNoError, ServesTheNextBatch, ServesNothingElse, ServesWholeBatches, ServesAllThatFit, ServesWithinLimits, TellsTheHighWatermark, TellsOutOfRange, TellsMissing, IsOnlyFetch};
-ghost use Rattle.read_laws.specs.WrongFetches.{fetch_always_out_of_range, fetch_answering_nobody, fetch_as_committed, fetch_as_uncommitted, fetch_after_the_offset, fetch_without_a_large_batch, fetch_one_partition, fetch_without_the_last_batch, fetch_cutting_batches, fetch_one_batch, fetch_above_the_level_end, fetch_never_used_up, fetch_without_a_partition_limit, fetch_never_an_error, fetch_out_of_range_at_the_end, fetch_telling_a_low_watermark};
+ghost use Rattle.read_laws.specs.Fetches.{LogsHaveBytes, TellsNoError, ServesTheNextBatch, ServesNothingElse, ServesWholeBatches, ServesAllThatFit, ServesWithinLimits, AnswersEachTopic, TellsTheHighWatermark, TellsOutOfRange, TellsMissing, IsOnlyFetch};
+ghost use Rattle.read_laws.specs.WrongFetches.{fetch_always_out_of_range, fetch_answering_nobody, fetch_as_committed, fetch_as_uncommitted, fetch_after_the_offset, fetch_without_a_large_batch, fetch_one_partition, fetch_without_the_last_batch, fetch_cutting_batches, fetch_one_batch, fetch_above_the_level_end, fetch_never_used_up, fetch_without_a_partition_limit, fetch_never_an_error, fetch_out_of_range_at_the_end, fetch_telling_a_low_watermark, fetch_without_names};
 ghost use Rattle.read_laws.specs.ListOffsets.{TellsTheLatest, TellsTheEarliest, TellsInvalidTimestamp, TellsUnlisted};
 ghost use Rattle.read_laws.specs.WrongListOffsets.{list_always_invalid, list_as_committed, list_as_uncommitted, list_other_end, list_never_an_error};
 
 /// A Fetch from a partition that the caller may READ is told no error at any offset from 0 to the log's end. The answer begins with
 /// the first batch that ends after the offset, up to the log's end or, for read_committed, up to the last stable offset: whatever
 /// its size where no partition before was given records, and else where max_bytes leaves room for it. Where there is no such
-/// batch, the answer is empty. It tells the log's end as the high watermark, and the last stable offset.
+/// batch, the answer is empty. Each stands at its place, with the log's end as the high watermark, and the last stable offset.
 pub fn fetches_succeed()
     ensures no_error { TellsNoError fetch_outcome }
     ensures no_error_not_out_of_range { ¬ TellsNoError fetch_always_out_of_range }
@@ -27,6 +27,8 @@ pub fn fetches_succeed()
     ensures next_of_level { ¬ ServesTheNextBatch fetch_as_committed }
     ensures else_nothing { ServesNothingElse fetch_outcome }
     ensures else_nothing_of_level { ¬ ServesNothingElse fetch_as_uncommitted }
+    ensures each { AnswersEachTopic fetch_outcome }
+    ensures each_by_name { ¬ AnswersEachTopic fetch_without_names }
     ensures watermark { TellsTheHighWatermark fetch_outcome }
     ensures watermark_not_the_stable_offset { ¬ TellsTheHighWatermark fetch_telling_a_low_watermark }
     ensures bytes { (w : World) → HoldLogs w.topics → LogsHaveBytes w.topics }

@@ -1,4 +1,4 @@
-use Rattle.read_laws.proofs.Fetches.{tells_no_error, serves_the_next_batch, serves_nothing_else, worlds_have, tells_the_high_watermark}
+use Rattle.read_laws.proofs.Fetches.{tells_no_error, serves_the_next_batch, serves_nothing_else, worlds_have, tells_the_high_watermark, answers_each_topic}
 use Rattle.read_laws.proofs.WrongFetches as wrong
 use Rattle.read_laws.proofs.laws.fetches_succeed.Goals as goal
 
@@ -49,3 +49,9 @@ returns-clause-watermark c = tells_the_high_watermark
 
 pub returns-clause-watermark_not_the_stable_offset : goal.returns-clause-watermark_not_the_stable_offset
 returns-clause-watermark_not_the_stable_offset c = wrong.watermark_not_the_stable_offset
+
+pub returns-clause-each : goal.returns-clause-each
+returns-clause-each c = answers_each_topic
+
+pub returns-clause-each_by_name : goal.returns-clause-each_by_name
+returns-clause-each_by_name c = wrong.answered_by_name
