@@ -15,7 +15,7 @@ from tests.support import PROGRAM, TOP, needs_proved_program, user
 MISUSED, FAILED = 2, 1
 FREE = "127.0.0.1:0"
 NONE = "/none"
-OPEN_FAILED = f"kbroker: {NONE}: the settings' file can't be opened: entity not found\n"
+OPEN_FAILED = f"kbroker: {NONE}: the settings' file can't be opened: no such file or directory\n"
 
 # What `--listen` refuses, and how.
 NO_ADDRESS = (
@@ -34,10 +34,14 @@ NO_ADDRESS = (
     "localhost:18446744073709551616",
     "[::1]",
     "[::1]:",
+    "PLAINTEXT://127.0.0.1:9092",
+    "//127.0.0.1:9092",
 )
 UNREAD = "kbroker: the input can't be read\n"
 DIRECTORY = "kbroker: {}: is a directory\n"
-TAKES_AN_ADDRESS = "error: --listen takes an address and a port, as in 127.0.0.1:9092\n"
+TAKES_AN_ADDRESS = (
+    "error: --listen takes HOST:PORT, as in 127.0.0.1:9092, with a port from 0 to 65535 and no PLAINTEXT:// before it\n"
+)
 USAGE = "Usage: kbroker serve [OPTIONS] --listen <ADDR>\n"
 
 NO_TEXT = "kbroker: the command line: an argument is not UTF-8\n"
@@ -91,9 +95,15 @@ class Words(unittest.TestCase):
         self.assertIn("--log-times\n", ended("serve", "--help")[2])
 
     def test_a_port_alone_is_told_what_is_taken(self):
-        status, printed, said = ended("serve", "--port", "9092")
-        self.assertEqual((status, printed), (MISUSED, ""))
-        self.assertEqual(said[: len(TAKES_AN_ADDRESS)], TAKES_AN_ADDRESS)
+        for option in ("--port", "-p"):
+            with self.subTest(option=option):
+                status, printed, said = ended("serve", option, "9092")
+                self.assertEqual((status, printed), (MISUSED, ""))
+                self.assertEqual(said[: len(TAKES_AN_ADDRESS)], TAKES_AN_ADDRESS)
+
+    def test_config_names_the_settings_file_too(self):
+        self.assertEqual(ended("serve", "--listen", FREE, "--config", NONE), (FAILED, "open failed\n", OPEN_FAILED))
+        self.assertEqual(ended("serve", "--listen", FREE, "--config", NONE, "--settings", NONE)[:2], (MISUSED, ""))
 
     def test_help_fits_in_a_hundred_columns(self):
         for command in ((), ("replay",), ("check",), ("serve",), ("show",)):
@@ -115,6 +125,11 @@ class Files(unittest.TestCase):
         with tempfile.TemporaryDirectory() as folder:
             said = f"kbroker: {folder}: it can't be read\n" + DIRECTORY.format(folder)
             self.assertEqual(ended("show", folder), (FAILED, "", said))
+
+    def test_standard_input_that_is_closed(self):
+        ran = subprocess.run([PROGRAM, "check"], capture_output=True, preexec_fn=lambda: os.close(0), timeout=60)
+        self.assertEqual((ran.returncode, ran.stdout), (FAILED, b""))
+        self.assertEqual(ran.stderr.decode(), UNREAD + "kbroker: standard input: it is closed\n")
 
     def test_a_folder_or_nothing_in_place_of_a_text(self):
         with tempfile.TemporaryDirectory() as folder:

@@ -324,7 +324,7 @@ class ByHand(ShownCase):
             ("show: the text can't be written", (), {"stdout": full}),
             ("standard input: it can't be read\nkbroker: standard input: is a directory", (), {"stdin": folder}),
             (f"{ROOT}: it can't be read: is a directory", ("--answers", ROOT), {}),
-            (f"{ROOT}/none: the file can't be opened: entity not found", ("--answers", ROOT / "none"), {}),
+            (f"{ROOT}/none: the file can't be opened: no such file or directory", ("--answers", ROOT / "none"), {}),
         )
         for why, words, streams in ways:
             with self.subTest(why=why):

@@ -8,7 +8,7 @@ use Rattle.std.specs.Int.{IsInRange}
 use Rattle.std.specs.Str.{NoCharPasses}
 use Rattle.std.specs.Str.Parse.{AllDigits, ParsesUnsigned, without_leading_plus}
 use Rattle.std.specs.Str.Pattern.{RFindsChar, SplitsAroundMatch}
-use Rattle.arguments.specs.Serving.{IsAddress, IsPort}
+use Rattle.arguments.specs.Serving.{IsAddress, IsHost, IsPort}
 
 -- no colon stands in the text
 abbrev Lacks : List ℕ → Type 0
@@ -89,16 +89,14 @@ module _ (text front back : List ℕ) (cut : SplitsAroundMatch (RFindsChar 58) t
   parts_of : (address : IsAddress text) → (front ≡ address.host) × (back ≡ address.port)
   parts_of address = last_same front back address.host address.port back_lacks (port_lacks address.port address.numbered.2.0.1) (sym cut_is ∙ address.split)
 
-  pub with_host : 0 < length front → (is_port : Bool) → (IsTrue is_port ↔ IsPort back) → IsTrue is_port ↔ IsAddress text
+  pub with_host : IsHost front → (is_port : Bool) → (IsTrue is_port ↔ IsPort back) → IsTrue is_port ↔ IsAddress text
   with_host some is_port port = (
     λ yes. record { host = front; port = back; split = cut_is; named = some; numbered = port.0 yes },
     λ address. port.1 (subst IsPort (sym (parts_of address).1) address.numbered),
   )
 
-  pub without_host : length front ≡ 0 → (b : Bool) → b ≡ false → IsTrue b ↔ IsAddress text
+  pub without_host : (IsHost front → ⊥) → (b : Bool) → b ≡ false → IsTrue b ↔ IsAddress text
   without_host none b fails = (
     λ yes. absurd (both_ways b fails yes),
-    λ address.
-        let some : 0 < length front = subst (λ (l : List ℕ). 0 < length l) (sym (parts_of address).0) address.named in
-        absurd (omega arith),
+    λ address. absurd (none (subst IsHost (sym (parts_of address).0) address.named)),
   )

@@ -1,5 +1,5 @@
 -- What a parse reads of the command line that is understood.
-use Rattle.std.specs.Prelude.{ℕ, List, [], ◌∷◌, Bool, Some, true, false, codes}
+use Rattle.std.specs.Prelude.{ℕ, List, [], ◌∷◌, ◌++◌, Bool, Some, true, false, codes}
 use Rattle.clap.specs.Walk.{Rule}
 use Rattle.clap.specs.declared.builder.action.ArgAction.TheVariants.{SetTrue}
 use Rattle.clap.specs.Simple.{App, Shape, new_app, new_rule, on_top, with_rule, with_subcommand}
@@ -22,10 +22,22 @@ abbrev pub option_rule : List ℕ → Bool → Rule
 option_rule name must =
     record (new_rule name) { long = Some name; value_names = 1; required = must }
 
--- the option of the address to listen on, which `--port` names too: so it is told what is wrong
--- with a port alone
+-- an option that one more `--NAME` names too
+abbrev pub also_named : Rule → List ℕ → Rule
+also_named rule name = record rule { aliases = rule.aliases ++ name ∷ [] }
+
+-- an option that one more `-c` names too
+abbrev pub also_short : Rule → ℕ → Rule
+also_short rule name = record rule { short_aliases = rule.short_aliases ++ name ∷ [] }
+
+-- the option of the address to listen on, which `--port` and `-p` (112) name too: so it is told
+-- what is wrong with a port alone
 abbrev pub listen_rule : Rule
-listen_rule = record (option_rule (codes "listen") true) { aliases = codes "port" ∷ [] }
+listen_rule = also_short (also_named (option_rule (codes "listen") true) (codes "port")) 112
+
+-- the option of the settings' file, which `--config` names too, as servers call theirs
+abbrev pub settings_rule : Rule
+settings_rule = also_named (option_rule (codes "settings") false) (codes "config")
 
 -- a flag `--NAME`
 abbrev pub flag_rule : List ℕ → Rule
@@ -75,7 +87,7 @@ with_serve_rates a =
 -- those of a broker that is steered
 abbrev pub with_serve_steering : App → App
 with_serve_steering a =
-    with_two_rules a (option_rule (codes "settings") false) (flag_rule (codes "control"))
+    with_two_rules a settings_rule (flag_rule (codes "control"))
 
 -- those of how a server stops
 abbrev pub with_serve_ending : App → App

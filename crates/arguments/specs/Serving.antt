@@ -1,5 +1,5 @@
 -- How connections are served.
-use Rattle.std.specs.Prelude.{◌≡◌, ◌<◌, ◌≤◌, ℕ, Bool, false, true, List, ◌∷◌, ◌++◌, length, Option, Some, None, IfSome, codes, is_some, option_map}
+use Rattle.std.specs.Prelude.{◌≡◌, ◌≢◌, ◌<◌, ◌≤◌, ℕ, Bool, false, true, List, ◌∷◌, ◌++◌, length, get_or, Option, Some, None, IfSome, codes, is_some, option_map}
 use Rattle.std.specs.Str.{bytes_eq}
 use Rattle.std.specs.Str.Parse.{IsNumeral, digits_value, without_leading_plus}
 use Rattle.arguments.specs.declared.serving.ShutdownOptions.{ShutdownOptions}
@@ -15,12 +15,16 @@ Writes text number =
 abbrev pub IsPort : List ℕ → Type 0
 IsPort text = (number : ℕ) × (number ≤ 65535) × Writes text number
 
+-- a host is named, and has no slash (47) as `PLAINTEXT://localhost` has
+abbrev pub IsHost : List ℕ → Type 0
+IsHost text = (0 < length text) × ((i : ℕ) → i < length text → get_or text i 0 ≢ 47)
+
 -- an address with a port: a host, a colon (58), and the port
 pub record IsAddress (text : List ℕ) : Type 0 where
   pub host : List ℕ
   pub port : List ℕ
   pub split : text ≡ host ++ 58 ∷ port
-  pub named : 0 < length host
+  pub named : IsHost host
   pub numbered : IsPort port
 
 abbrev pub IsIn : ℕ → ℕ → Type 0

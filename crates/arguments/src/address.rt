@@ -1,7 +1,7 @@
 //! The address that a server listens on.
 
 ghost use Rattle.std.specs.Prelude.{◌≡◌, ◌↔◌, IfErr, IfOk, IsTrue, Some, option_map};
-ghost use Rattle.arguments.specs.Serving.{IsAddress, IsPort};
+ghost use Rattle.arguments.specs.Serving.{IsAddress, IsHost, IsPort};
 
 use crate::misused::Misused;
 
@@ -12,19 +12,25 @@ fn is_port(text: &str) -> bool
     text.parse::<u16>().is_ok()
 }
 
-/// Whether a text is `HOST:PORT`: a port number stands after its last colon, and HOST isn't empty. HOST isn't resolved or checked
-/// otherwise.
+/// Whether a text can be a host: it isn't empty and has no slash. It isn't resolved or checked otherwise.
+fn is_host(text: &str) -> bool
+    ensures { IsTrue result ↔ IsHost text.now }
+{
+    !text.is_empty() && !text.contains('/')
+}
+
+/// Whether a text is `HOST:PORT`: a port number stands after its last colon, and a host before it.
 fn is_address(text: &str) -> bool
     ensures { IsTrue result ↔ IsAddress text.now }
 {
     match text.rsplit_once(':') {
-        Some((host, port)) => !host.is_empty() && is_port(port),
+        Some((host, port)) => is_host(host) && is_port(port),
         None => false,
     }
 }
 
-/// The value of `--listen`, `HOST:PORT`. The error is `Listen` where the option isn't given, the host is empty or the port is
-/// none.
+/// The value of `--listen`, `HOST:PORT`. The error is `Listen` where the option isn't given, the host is none, as where it begins
+/// with `PLAINTEXT://`, or the port is none.
 pub(crate) fn listen_of<'a>(text: Option<&'a str>) -> Result<&'a str, Misused>
     ensures within { IfOk result (λ address. IsAddress address.now) }
     ensures told { IfOk result (λ address. option_map (λ t. t.now) text.entry ≡ Some address.now) }

@@ -25,7 +25,9 @@ impl Misused {
     /// Which values the option takes, or which other options it excludes or needs, in one sentence for the user.
     pub(crate) fn sentence(self) -> &'static str {
         match self {
-            Misused::Listen => "--listen takes an address and a port, as in 127.0.0.1:9092",
+            Misused::Listen => {
+                "--listen takes HOST:PORT, as in 127.0.0.1:9092, with a port from 0 to 65535 and no PLAINTEXT:// before it"
+            },
             Misused::Workers => "--workers takes a number from 1 to 64",
             Misused::Connections => "--connections takes a number from 1 to 1000000",
             Misused::Endless => {

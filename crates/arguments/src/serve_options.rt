@@ -4,7 +4,7 @@ ghost use Rattle.std.specs.Prelude.{◌≡◌, IfOk, false};
 ghost use Rattle.clap.specs.Simple.{app_of};
 ghost use Rattle.clap.specs.Walk.{rule_of};
 ghost use Rattle.clap.specs.declared.builder.command.Command.TheViews.{out-Command as fields_of};
-ghost use Rattle.arguments.specs.CommandLine.{flag_rule, listen_rule, option_rule, with_rules, with_two_rules, with_serve_clients, with_serve_deadlines, with_serve_ending, with_serve_numbers, with_serve_options, with_serve_rates, with_serve_reports, with_serve_shares, with_serve_steering, with_serve_switches};
+ghost use Rattle.arguments.specs.CommandLine.{also_named, also_short, flag_rule, listen_rule, option_rule, settings_rule, with_rules, with_two_rules, with_serve_clients, with_serve_deadlines, with_serve_ending, with_serve_numbers, with_serve_options, with_serve_rates, with_serve_reports, with_serve_shares, with_serve_steering, with_serve_switches};
 
 use crate::help::{
     AUDIT, CONNECTIONS, CONTROL, ENDLESS, FOR, FRAME_WITHIN, GRACE, IDLE, LIBRDKAFKA, LISTEN,
@@ -32,13 +32,42 @@ pub(crate) fn option<'a>(
         .required(must)
 }
 
-/// The required option `--listen`, with the address to listen on. `--port` is a hidden alias of it, so that who gives a port
-/// alone reads what `--listen` takes.
+/// The option with one more name, which help doesn't show.
+fn with_alias<'a>(option: Arg<'a>, name: &'a str) -> Result<Arg<'a>, AllocError>
+    ensures rule { IfOk result
+        (λ made. rule_of made ≡ also_named (rule_of option.entry) name.entry.now) }
+    ensures local { IfOk result (λ made. made.global ≡ option.entry.global) }
+{
+    option.alias(name)
+}
+
+/// The option with one more short name, which help doesn't show.
+fn with_short_alias<'a>(option: Arg<'a>, name: char) -> Result<Arg<'a>, AllocError>
+    ensures rule { IfOk result (λ made. rule_of made ≡ also_short (rule_of option.entry) name) }
+    ensures local { IfOk result (λ made. made.global ≡ option.entry.global) }
+{
+    option.short_alias(name)
+}
+
+/// The required option `--listen`, with the address to listen on. `--port` and `-p` are hidden aliases of it, so that who gives a
+/// port alone reads what `--listen` takes.
 fn listen_option<'a>(alloc: Global) -> Result<Arg<'a>, AllocError>
     ensures rule { IfOk result (λ made. rule_of made ≡ listen_rule) }
     ensures local { IfOk result (λ made. made.global ≡ false) }
 {
-    option(alloc, "listen", "ADDR", LISTEN, true).alias("port")
+    let listen = option(alloc, "listen", "ADDR", LISTEN, true);
+    with_short_alias(with_alias(listen, "port")?, 'p')
+}
+
+/// The option `--settings`, with the file that holds the settings. `--config`, as servers call theirs, is a hidden alias of it.
+fn settings_option<'a>(alloc: Global) -> Result<Arg<'a>, AllocError>
+    ensures rule { IfOk result (λ made. rule_of made ≡ settings_rule) }
+    ensures local { IfOk result (λ made. made.global ≡ false) }
+{
+    with_alias(
+        option(alloc, "settings", "FILE", SETTINGS, false),
+        "config",
+    )
 }
 
 /// A switch `--NAME` without a value.
@@ -164,7 +193,7 @@ fn with_steering<'a>(alloc: Global, command: Command<'a>) -> Result<Command<'a>,
     ensures local { IfOk result
         (λ made. (fields_of made).has_globals ≡ (fields_of command.entry).has_globals) }
 {
-    let settings = option(alloc, "settings", "FILE", SETTINGS, false);
+    let settings = settings_option(alloc)?;
     let control = flag(alloc, "control", CONTROL);
     with_two(command, settings, control)
 }

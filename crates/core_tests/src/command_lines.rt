@@ -68,7 +68,7 @@ fn show_has_a_file_and_answers(rt: HostRuntime) -> Result<(), Fail> {
     Ok(())
 }
 
-/// An address has a host and a port, between which its last colon stands.
+/// An address has a host without a slash, and a port, between which its last colon stands.
 #[test]
 fn addresses_have_a_host_and_a_port(rt: HostRuntime) {
     for (address, is_taken) in [
@@ -76,6 +76,7 @@ fn addresses_have_a_host_and_a_port(rt: HostRuntime) {
         ("localhost:65535", true),
         ("[::1]:09092", true),
         ("localhost:+9092", true),
+        ("PLAINTEXT://localhost:9092", false),
         ("localhost:65536", false),
         ("localhost:", false),
         ("localhost:9092x", false),

@@ -13,7 +13,7 @@ use broker_server::{ServeOptions, Server, serve};
 use commands::{Opened, check, open_and_explain, replay};
 use session_pool::{ListedVersions, ShutdownFlag};
 use session_workers::{ConnectionOptions, SessionOptions};
-use show::{Noted, explain, explain_by, show_and_explain};
+use show::{Noted, Reason, explain, explain_by, show_and_explain};
 use std::alloc::{AllocError, Global};
 use std::hash::RandomState;
 use std::io::{BufRead, BufReader, ErrorKind, Input, IsTerminal, Print, Read, Write};
@@ -127,7 +127,7 @@ fn fail_by<W: Write, E: Write>(
     error: &io::Error,
 ) -> u8 {
     let _ = writer.write_all(line.as_bytes());
-    explain_by(alloc, errors, what, why, error.kind());
+    explain_by(alloc, errors, what, why, Reason::of(error));
     FAILED
 }
 

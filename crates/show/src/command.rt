@@ -6,12 +6,13 @@ ghost use Rattle.show.specs.declared.outcome.Shown.TheVariants.{Whole};
 
 use crate::noted::Noted;
 use crate::outcome::{ShowFault, Shown};
+use crate::reason::Reason;
 use crate::script::show_script;
 use byte_streams::{INPUT_LIMIT, InputFault, read_input};
 use std::alloc::Global;
 use std::fmt::Display;
 use std::fs;
-use std::io::{ErrorKind, Read, Write};
+use std::io::{Read, Write};
 use std::rt::Files;
 
 /// The exit status where each line was shown.
@@ -23,7 +24,7 @@ const FAILED: u8 = 1;
 /// Why a file can't be opened or read, and the system's reason where it has one.
 struct Unread {
     why: &'static str,
-    reason: Option<ErrorKind>,
+    reason: Option<Reason>,
 }
 
 /// Prints `kbroker: WHAT: WHY`, with both texts raw. That an allocation or a write fails isn't reported.
@@ -40,7 +41,7 @@ pub fn explain_by<E: Write>(
     errors: &mut E,
     what: &str,
     why: &str,
-    reason: ErrorKind,
+    reason: Reason,
 ) {
     match format!(in alloc; "{why}: {reason}") {
         Ok(why) => explain(alloc, errors, what, why.as_str()),
@@ -64,7 +65,7 @@ fn read_file<T: Files>(rt: &T, alloc: Global, path: &str) -> Result<Vec<u8>, Unr
         Err(error) => {
             return Err(Unread {
                 why: "the file can't be opened",
-                reason: Some(error.kind()),
+                reason: Some(Reason::of(&error)),
             });
         }
     };

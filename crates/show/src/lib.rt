@@ -8,9 +8,11 @@ mod answer;
 mod command;
 mod noted;
 mod outcome;
+mod reason;
 mod script;
 mod sent;
 mod told;
 
 pub use command::{explain, explain_by, show_and_explain};
 pub use noted::Noted;
+pub use reason::Reason;

@@ -1,13 +1,14 @@
 //! A reader that notes why it can't be read.
 
+use crate::reason::Reason;
 use std::io;
-use std::io::{ErrorKind, Read};
+use std::io::Read;
 
 /// A reader that keeps the system's reason why its last read failed.
 #[derive(Drop)]
 pub struct Noted<R> {
     reader: R,
-    reason: Option<ErrorKind>,
+    reason: Option<Reason>,
 }
 
 impl<R: Read> Noted<R> {
@@ -20,7 +21,7 @@ impl<R: Read> Noted<R> {
     }
 
     /// The system's reason why the last read failed; `None` where it didn't, or none was made.
-    pub fn reason(&self) -> Option<ErrorKind> {
+    pub fn reason(&self) -> Option<Reason> {
         self.reason
     }
 }
@@ -33,7 +34,7 @@ impl<R: Read> Read for Noted<R> {
         let read = self.reader.read(piece);
         self.reason = match &read {
             Ok(_) => None,
-            Err(error) => Some(error.kind()),
+            Err(error) => Some(Reason::of(error)),
         };
         read
     }
