@@ -68,12 +68,12 @@ class Sources:
         words = words_of(self.texts[definition])
         return {it for name, it in scope.items() if words & {*name.split("◌")} - {""}} - {definition}
 
-    def closure(self, definitions):
-        """These, their parts, and the parts of those."""
+    def closure(self, definitions, without=frozenset()):
+        """These, their parts, and the parts of those, but for some, whose parts aren't looked at."""
         found, rest = set(), [*definitions]
         while rest:
             it = rest.pop()
-            if it not in found:
+            if it not in found and it not in without:
                 found.add(it)
                 rest += self.parts(it)
         return found
@@ -82,7 +82,8 @@ class Sources:
         """The definitions that contracts speak of."""
         paths = sorted((self.root / "crates").glob("*/src/**/*.rt"))
         texts = [it.read_text(encoding="utf-8") for it in paths if it.name != "laws.rt"]
-        return {it for it in self.closure(it for text in texts for it in self.used(text).values()) if it[0] not in CRATES_OF_LAWS}
+        found = self.closure(it for text in texts for it in self.used(text).values())
+        return {it for it in found if it[0] not in CRATES_OF_LAWS}
 
     def rules_of_clauses(self):
         """The rules of the laws that refute others."""
@@ -114,7 +115,7 @@ class Sources:
     def said_once(self):
         """What is said once, by its module; how many definitions are reached; and which names of rules aren't one definition's."""
         of_page, lacks = self.rules_of_page()
-        checked, reached, found = self.closure((self.rules_of_clauses() | of_page) - STEPS), self.reached(), {}
+        checked, reached, found = self.closure(self.rules_of_clauses() | of_page, STEPS), self.reached(), {}
         for crate, module, name in sorted(reached - checked):
             found.setdefault(f"{crate}.{module}", []).append(name)
         return found, len(reached), lacks

@@ -175,6 +175,11 @@ class SaidOnce(unittest.TestCase):
         self.write(said_once.RULES, PAGE % "| a rule | `outcome` | `a_case` | |\n")
         self.assertEqual(self.found(), (ONCE, []))
 
+    def test_a_rule_that_is_made_of_the_step_does_not_check_its_parts(self):
+        path = self.root / "crates/small/specs/Rules.antt"
+        path.write_text("use Rattle.api_dispatch.specs.Step.{outcome}\n" + RULES.replace("part ⊕ 1", "part ⊕ outcome"), encoding="utf-8")
+        self.assertEqual(self.found(), (ONCE, []))
+
     def test_what_no_contract_speaks_of_is_not_listed(self):
         self.write("crates/small/src/inner/work.rt", "pub fn work() {}\n")
         self.assertEqual(self.found(), ({}, []))
