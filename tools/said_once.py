@@ -30,9 +30,10 @@ STEPS |= {("request_handlers", "Headline", "state_after")}
 MOST_WORDS = 20  # of a reason
 USE = re.compile(r"^\s*(?:pub |ghost )*use Rattle\.(\w+)\.specs\.([\w.]+)\.\{([^}]*)\};?$", re.M)
 COMMENT = re.compile(r"^\s*--.*\n|\s--\s.*$", re.M)
+SHARED = re.compile(r"^pub use Rattle\.(\w+)\.specs\.([\w.]+)$", re.M)
 # Where something of a file begins: a definition, of which this has the name, or a proof, a use, and so on.
-DEFINED = r"(?:abbrev |unfoldable |(?:pub )?(?=record |data ))(?:pub )?(?:record |data )?(\S+)"
-START = re.compile(rf"^(?:{DEFINED}|(?:pub|use|unfolding|infix\w*) |\S+ :)", re.M)
+DEFINED = r" *(?:abbrev|unfoldable) (?:pub )?(\S+)|(?:pub )?(?:record|data) (\S+)"
+START = re.compile(rf"^(?:{DEFINED}|(?:pub|use|unfolding|infix\w*|module) |\S+ :)", re.M)
 WORD = re.compile(r'"(?:[^"\\]|\\.)*"|[^\s(){};,]+')  # a text is one word
 SECTION = re.compile(r"^## Rules that are said twice\n(.*?)(?=^## |\Z)", re.M | re.S)
 CODE = re.compile(r"( of )?`([\w.]+)`")
@@ -43,12 +44,13 @@ class Sources:
     """The definitions of the files of specs/ below a folder, each by its crate, module and name."""
 
     def __init__(self, root):
-        self.root, self.texts, self.scopes = root, {}, {}
+        self.root, self.texts, self.scopes, self.shared = root, {}, {}, {}
         for path in sorted((root / "crates").glob("*/specs/**/*.antt")):
             crate, _, *below = path.relative_to(root / "crates").with_suffix("").parts
             text, module = path.read_text(encoding="utf-8"), ".".join(below)
             self.texts |= {(crate, module, name): it for name, it in texts_of(text)}
             self.scopes[crate, module] = text
+            self.shared |= {(crate, it[1]): it for it in SHARED.findall(text)}  # modules of other crates, under the same name
         for module, text in self.scopes.items():
             own = {it[2]: it for it in self.texts if it[:2] == module}
             self.scopes[module] = self.used(text) | own
@@ -58,8 +60,9 @@ class Sources:
         found = {}
         for crate, module, names in USE.findall(text):
             for name, _, own in (it.strip().partition(" as ") for it in names.split(",")):
-                if (crate, module, name) in self.texts:
-                    found[own or name] = crate, module, name
+                it = *self.shared.get((crate, module), (crate, module)), name
+                if it in self.texts:
+                    found[own or name] = it
         return found
 
     def parts(self, definition):
@@ -126,8 +129,8 @@ def texts_of(text):
     text = COMMENT.sub("\n", text)
     starts = [*START.finditer(text)]
     for it, after in zip(starts, [*(it.start() for it in starts[1:]), len(text)]):
-        if it[1]:
-            yield it[1], text[it.start() : after]
+        if name := it[1] or it[2]:
+            yield name, text[it.start() : after]
 
 
 def words_of(text):

@@ -41,9 +41,10 @@ part = 4
 pub record Held : Type 0 where
   pub kept : ℕ
 
--- what a handler makes of an event
-abbrev pub handled : ℕ
-handled = part
+module _ {T : Type 0} where
+  -- what a handler makes of an event
+  abbrev pub handled : ℕ
+  handled = part
 """
 STEP = """use Rattle.small.specs.Handled.{handled as made}
 
@@ -61,7 +62,7 @@ abbrev pub wrong : ℕ
 wrong = 0
 """
 CODE = """ghost use Rattle.small.specs.Rules.{rule, alone};
-ghost use Rattle.small.specs.Handled.{Held};
+ghost use Rattle.sharing.specs.Handled.{Held};
 ghost use Rattle.api_dispatch.specs.Step.{outcome};
 
 pub fn work() -> u64
@@ -99,6 +100,7 @@ class SaidOnce(unittest.TestCase):
         self.root = Path(folder.name)
         self.write("crates/small/specs/Rules.antt", RULES)
         self.write("crates/small/specs/Handled.antt", HANDLED)
+        self.write("crates/sharing/specs/Lib.antt", "pub use Rattle.small.specs.Handled\n")
         self.write("crates/small/src/inner/work.rt", CODE)
         self.write("crates/api_dispatch/specs/Step.antt", STEP)
         self.write("crates/wrong_rules/specs/Wrong.antt", WRONG)
