@@ -88,7 +88,7 @@ REFUTED = "    ensures fails { ¬ Law wrong }\n"
 PAGE = "## Rules that are said twice\n| rule | definition | second statement | tried |\n|---|---|---|---|\n%s\n## Wrong rules\n"
 # In reasons: laws of a crate, cases of a crate's file, and paths of tests/, which may have cases.
 LAWS_OF = re.compile(r"((?:`\w+`(?:, | and ))*`\w+`) of `(\w+)`")
-CASES_OF = re.compile(r"`(\w+)` \(`(\w+\.rt)`\)((?:[:,] `\w+`(?! \())*)")
+CASES_OF = re.compile(r"`(\w+)` \(`([\w/]+\.rt)`\)((?:[:,] `\w+`(?! \())*)")
 PATH = re.compile(r"`(tests/[\w/.]+)`((?:[:,] `\w+`(?! \())*)")
 ONCE = {"api_dispatch.Step": ["outcome"], "small.Handled": ["Held", "handled", "part"], "small.Rules": ["alone"]}
 
