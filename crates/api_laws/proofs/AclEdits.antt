@@ -200,7 +200,7 @@ refused_whole w questions refused served r e = record {
   refusals = ap (λ (o : Option Refusal). (whole_outcome_by o w refused served).refusals) e;
 }
 
-pub refused_edit_nothing : RefusedEditNothing
+pub refused_edit_nothing : RefusedEditNothing create_acls_outcome delete_acls_outcome
 refused_edit_nothing = record {
   create = λ w caller q r e. refused_whole w (alter_questions caller) _ _ r e;
   delete = λ w caller q r e. refused_whole w (alter_questions caller) _ _ r e;

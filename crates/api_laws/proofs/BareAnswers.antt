@@ -64,7 +64,7 @@ use Rattle.txn_handlers.specs.TxnOffsetCommit.{staging_rule}
 use Rattle.acl_handlers.specs.DescribeAcls.{describe_acls_questions, describe_acls_error, describe_acls_reply}
 use Rattle.acl_handlers.specs.CreateAcls.{alter_questions, book_created, creation_result_with, creation_result, create_acls_reply}
 use Rattle.acl_handlers.specs.DeleteAcls.{book_deleted, deletion_error, deletion_results, delete_acls_reply}
-use Rattle.api_dispatch.specs.Step.{request_outcome}
+use Rattle.api_dispatch.specs.Step.{request_outcome, reply_to}
 use Rattle.api_laws.specs.AskedTable.{Row, row_question, request_rows, topic_rows, first_refused}
 use Rattle.api_laws.specs.BareAnswers.{refusal_error, bare_produced, bare_fetched, bare_listed, bare_info, bare_committed, bare_offset, bare_added, bare_staged, bare_ended, bare_reply, produced_in, added_in, offsets_in, RefusesBarely, RefusalsTellNothing}
 use Rattle.api_laws.proofs.Headlines.{one_by_one}
@@ -224,7 +224,7 @@ module _ (w : World) (caller : Caller) where
       subst (λ (l : List (Topic AddedPartition)). RefusesBarely w caller (topic_rows (requests.AddPartitionsToTxn r)) bare_added r.topics l) (told_all caller r.transactional_id code w.topics (rules_of w) r.topics is)
       (walk_bare ℤ AddedPartition (Unit {0}) (code_rule_for caller r.transactional_id code) bare_added w caller (topic_rows (requests.AddPartitionsToTxn r)) (λ name index. refl) (λ c name index. refl) tt r.topics)
 
-pub refusals_tell_nothing : RefusalsTellNothing
+pub refusals_tell_nothing : RefusalsTellNothing reply_to
 refusals_tell_nothing = record {
   itself = λ w caller client request x is. itself w caller request x is;
   produce = λ w caller client r. produce_bare w caller r;

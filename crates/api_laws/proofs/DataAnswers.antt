@@ -58,7 +58,7 @@ timed : (level : Isolation) (topics : List TopicValue) (name : List ℕ) (p : Wa
 timed level topics name p log time there is =
     ap (listed_offset_by level p) there ∙ ap (λ (z : ℤ). cond (int_eq z (negsuc 0)) (listed_at (limit_of level log) p) (cond (int_eq z (negsuc 1)) (listed_at (pos 0) p) (listed_error codes.InvalidRequest p))) is
 
-pub lists_ends : ListsEnds
+pub lists_ends : ListsEnds listed_offset
 lists_ends = record {
   other = λ level topics name p log there last first. subst (IsUnlisted 42 p)
       (sym (ap (listed_offset_by level p) there ∙ ap (λ (t : Bool). cond t (listed_at (limit_of level log) p) (cond (int_eq p.timestamp (negsuc 1)) (listed_at (pos 0) p) (listed_error codes.InvalidRequest p))) last ∙ ap (λ (t : Bool). cond t (listed_at (pos 0) p) (listed_error codes.InvalidRequest p)) first))

@@ -129,7 +129,7 @@ within level log budget p = record {
 unserved : (level : Isolation) (budget : FetchBudget) (p : FetchPartition) (code : ErrorCode) (s : Result Served ErrorCode) → s ≡ Err code → ((fetched_partition level p s).error ≡ code) × IsUnserved budget p (fetched_partition level p s) (budget_after budget s)
 unserved level budget p code s is = subst (λ (x : Result Served ErrorCode). ((fetched_partition level p x).error ≡ code) × IsUnserved budget p (fetched_partition level p x) (budget_after budget x)) (sym is) (refl, record { index = refl; records = refl; high = refl; stable = refl; aborted = refl; left = refl })
 
-pub fetches_runs : FetchesRuns
+pub fetches_runs : FetchesRuns served_at
 fetches_runs = record {
   within = λ level topics budget name p log there inside. subst (λ (x : Result Served ErrorCode). IsFetched level log budget p (fetched_partition level p x) (budget_after budget x)) (sym (inside_served level topics budget name p log there inside)) (within level log budget p);
   outside = λ level topics budget name p log there outside. unserved level budget p codes.OffsetOutOfRange (served_at level topics budget name p) (outside_served level topics budget name p log there outside);

@@ -97,7 +97,7 @@ use Rattle.txn_handlers.specs.TxnOffsetCommit.{staging_of, offset_staged, stagin
 use Rattle.acl_handlers.specs.DescribeAcls.{describe_acls_questions, describe_acls_error, describe_acls_reply}
 use Rattle.acl_handlers.specs.CreateAcls.{alter_questions, book_created, creation_result_with, creation_result_by, creation_result, create_acls_reply}
 use Rattle.acl_handlers.specs.DeleteAcls.{book_without, book_deleted, deleted_acl, deletion_error, deletion_result, deletion_results, delete_acls_reply}
-use Rattle.api_dispatch.specs.Step.{request_outcome}
+use Rattle.api_dispatch.specs.Step.{request_outcome, reply_to}
 use Rattle.api_laws.specs.ToldErrors.{partition_errors, info_errors, deleted_errors, all_errors}
 use Rattle.api_laws.specs.ErrorTable.{id_errors, metadata_errors, named_errors, init_errors, errors_of, IsAmong, ErrorsByTable}
 use Rattle.api_laws.proofs.Grouped.{own_name}
@@ -470,5 +470,5 @@ module _ (w : World) (caller : Caller) where
   answers_among (requests.DeleteAcls r) = delete_among r
   answers_among (requests.SaslAuthenticate r) = (refl, tt)
 
-pub errors_by_table : ErrorsByTable
+pub errors_by_table : ErrorsByTable reply_to
 errors_by_table w caller client request = answers_among w caller request

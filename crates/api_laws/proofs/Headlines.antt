@@ -19,7 +19,7 @@ use Rattle.broker_world.specs.World.{World, rules_of, topic_names}
 use Rattle.walk.specs.Codes.{refusal_code}
 use Rattle.walk.specs.Weave.{weave}
 use Rattle.msg_data.specs.declared.metadata.TopicInfo.{TopicInfo}
-use Rattle.data_handlers.specs.Metadata.{topic_error, plain_topic, plain_topics, describable, refused_topics, metadata_topics, answer_by, topic_answer}
+use Rattle.data_handlers.specs.Metadata.{topic_error, plain_topic, plain_topics, describable, refused_topics, topic_refusals, metadata_topics, answer_by, topic_answer}
 use Rattle.broker_world.specs.Questions.{topic_refusal}
 use Rattle.api_laws.specs.Headline.{AnsweredBy, AnswersEachTopic, refusals_of_one, RefusesEachTopic, is_yes, may_describe, NullTellsDescribable}
 
@@ -44,7 +44,7 @@ at_place w caller names i name here = by_verdict (verdict w.book w.supers (quest
   by_verdict (Denied n) h = h
   by_verdict Nothing h = h
 
-pub answers_each_topic : AnswersEachTopic
+pub answers_each_topic : AnswersEachTopic metadata_topics
 answers_each_topic = record {
   places = at_place;
   number = λ w caller names. ap length (one_by_one w caller names) ∙ length-map names (topic_answer w caller);
@@ -67,7 +67,7 @@ alone_kept : (r : Option Refusal) → cons_option r [] ≡ refusals_of_one r
 alone_kept None = refl
 alone_kept (Some r) = refl
 
-pub refuses_each_topic : RefusesEachTopic
+pub refuses_each_topic : RefusesEachTopic topic_refusals
 refuses_each_topic = record {
   verdict = λ rules caller name. by_the_verdict (verdict rules.book rules.supers (question_of caller operations.Describe kinds.Topic name)) (question_of caller operations.Describe kinds.Topic name);
   one = λ rules caller name. alone_kept (topic_refusal rules caller name);

@@ -40,3 +40,4 @@ pub mod Unchanged
 pub mod BareAnswers
 pub mod ErrorCases
 pub mod Wrong
+pub mod WrongReads

@@ -17,6 +17,7 @@ use Rattle.msg_admin.specs.declared.request.Request.TheVariants as requests
 use Rattle.broker_world.specs.World.{World, rules_of}
 use Rattle.api_dispatch.specs.Questions.{asks_itself, asks_at, partition_parts, topic_parts, offset_parts}
 use Rattle.api_dispatch.specs.Refusals.{refusals_in, refusal_or_rest, request_refusals}
+use Rattle.api_dispatch.specs.Step.{refusals_of}
 use Rattle.api_dispatch.proofs.Told.{refusals_are_of_parts}
 use Rattle.api_laws.specs.Headline.{is_yes}
 use Rattle.api_laws.specs.AskedTable.{Row, row_question, request_rows, topic_rows, first_refused}
@@ -121,5 +122,5 @@ module _ (w : World) (caller : Caller) where
   of_request (requests.DeleteAcls r) = of_itself (requests.DeleteAcls r)
   of_request (requests.SaslAuthenticate r) = refl
 
-pub refusals_by_table : RefusalsByTable
+pub refusals_by_table : RefusalsByTable refusals_of
 refusals_by_table w caller client request = refusals_are_of_parts w caller client request ∙ of_request w caller request

@@ -67,7 +67,7 @@ not_ids_as_groups law = let clash : pos 30 ≡ pos 53 = law.transactional_id (re
 
 -- ---- a topic `a` with two partitions, in each a batch of three bytes; `User:root` may do everything, and nobody else anything
 
-abbrev batch : ℤ → BatchData
+abbrev pub batch : ℤ → BatchData
 batch attributes = record {
   header = record { base_offset = pos 0; batch_length = pos 58; partition_leader_epoch = pos 0; magic = pos 2; crc = 0; attributes = attributes; last_offset_delta = pos 0; base_timestamp = pos 0; max_timestamp = pos 0; producer_id = pos 7; producer_epoch = pos 0; base_sequence = pos 0; record_count = pos 1 };
   records = record { timestamp_delta = pos 0; key = None; value = None; headers = [] } ∷ [];
@@ -75,22 +75,22 @@ batch attributes = record {
   bytes = 1 ∷ 2 ∷ 3 ∷ [];
 }
 
-abbrev plain : BatchData
+abbrev pub plain : BatchData
 plain = batch (pos 0)
 
 abbrev logs : List LogValue
 logs = (plain ∷ []) ∷ (plain ∷ []) ∷ []
 
-abbrev topic : TopicValue
+abbrev pub topic : TopicValue
 topic = record { name = bytes "a"; partitions = logs }
 
-abbrev w : World
+abbrev pub w : World
 w = record { node = record { node_id = pos 0; host = bytes "h"; port = pos 9092; max_batch = pos 1048576; max_txn_timeout = pos 900000 }; supers = bytes "User:root" ∷ []; book = empty_book; topics = topic ∷ []; coordinator = no_transactions; groups = []; moment = 0; events = 0 }
 
-abbrev root : Caller
+abbrev pub root : Caller
 root = record { who = bytes "User:root"; host = bytes "h" }
 
-abbrev ann : Caller
+abbrev pub ann : Caller
 ann = record { who = bytes "User:ann"; host = bytes "h" }
 
 -- ---- Metadata of a null list
@@ -180,10 +180,10 @@ not_anybody law = let clash : Some (pos 0) ≡ Some (pos 29) = law.parts w ann N
 abbrev describes_cluster : Binding
 describes_cluster = record { kind = kinds.Cluster; name = bytes "kafka-cluster"; pattern = patterns.Literal; principal = bytes "User:ann"; host = bytes "*"; operation = operations.Describe; permission = permissions.Allow }
 
-abbrev with_describer : World
+abbrev pub with_describer : World
 with_describer = record w { book = record { entries = record { number = 1; binding = describes_cluster } ∷ []; next = 2 } }
 
-abbrev any_entry : FilterEntry
+abbrev pub any_entry : FilterEntry
 any_entry = record { kind = pos 1; name = None; pattern = pos 1; principal = None; host = None; operation = pos 1; permission = pos 1 }
 
 pub not_alterers : ¬ AsksByTable reply_to_alterers

@@ -76,7 +76,9 @@ pub record IsRefusedWhole (w : World) (r : Refusal) (outcome : HandlerResult) : 
   pub world : outcome.world ≡ w
   pub refusals : outcome.refusals ≡ r ∷ []
 
-pub record RefusedEditNothing : Type 0 where
+-- a CreateAcls and a DeleteAcls that the book of before doesn't allow change nothing
+pub record RefusedEditNothing (create_acls_outcome : CreateRule) (delete_acls_outcome : DeleteRule)
+    : Type 0 where
   pub create : (w : World) (caller : Caller) (q : CreateAclsRequest) (r : Refusal)
       → part_refusal (rules_of w) (alter_questions caller) ≡ Some r
       → IsRefusedWhole w r (create_acls_outcome w caller q)

@@ -43,8 +43,7 @@ use Rattle.msg_admin.specs.declared.reply.Reply.TheVariants as replies
 use Rattle.audit_trail.specs.declared.event.Event.TheVariants.{Ask}
 use Rattle.walk.specs.Headline.{element_at}
 use Rattle.broker_world.specs.World.{World}
-use Rattle.api_dispatch.specs.Step.{reply_to}
-use Rattle.api_laws.specs.AskedTable.{Row, request_rows, topic_rows, first_refused}
+use Rattle.api_laws.specs.AskedTable.{Row, request_rows, topic_rows, first_refused, AnswerRule}
 
 abbrev pub refusal_error : Kind → ErrorCode
 refusal_error kinds.Topic = codes.TopicAuthorizationFailed
@@ -211,7 +210,7 @@ RefusesBarely {P} w caller rows bare ts answered =
 
 -- a request that is refused itself, and each refused part at its place, is answered as above,
 -- whatever there is
-pub record RefusalsTellNothing : Type 0 where
+pub record RefusalsTellNothing (reply_to : AnswerRule) : Type 0 where
   pub itself : (w : World) (caller : Caller) (client : Option (List ℕ)) (request : Request)
       (x : Row)
       → first_refused w caller (request_rows w caller request) ≡ Some x

@@ -1,7 +1,8 @@
 -- What a Produce, a Fetch and a ListOffsets do with one partition that is allowed, in the subject's
 -- words.
-use Rattle.std.specs.Prelude.{◌≡◌, ◌≤◌, ◌⊎◌, ℕ, ℤ, pos, negsuc, int_le, Bool, true, false, List, [], ◌∷◌, ◌++◌, length, Option, Some, None, Ok}
+use Rattle.std.specs.Prelude.{◌≡◌, ◌≤◌, ◌⊎◌, ℕ, ℤ, pos, negsuc, int_le, Bool, true, false, List, [], ◌∷◌, ◌++◌, length, Option, Some, None, Result, Ok}
 use Rattle.std.specs.List.{AllByRecursion}
+use Rattle.wire_types.specs.declared.error_code.ErrorCode.{ErrorCode}
 use Rattle.wire_types.specs.declared.error_code.ErrorCode.TheVariants as codes
 use Rattle.wire_types.specs.ErrorCode.{number_of}
 use Rattle.std.specs.Ordering.{int_eq}
@@ -10,6 +11,7 @@ use Rattle.producer_state.specs.declared.judgment.Judgment.TheVariants.{Next, Re
 use Rattle.producer_state.specs.Sequences.{judgment_of as judged_by_log}
 use Rattle.partition_log.specs.Log.{end_of, at_end, last_stable_offset}
 use Rattle.partition_log.specs.Laws.{total_bytes}
+use Rattle.partition_log.specs.declared.served.Served.{Served}
 use Rattle.msg_data.specs.declared.isolation.Isolation.{Isolation}
 use Rattle.msg_data.specs.declared.isolation.Isolation.TheVariants.{ReadUncommitted, ReadCommitted}
 use Rattle.msg_data.specs.declared.produce.ProducedRecords.{ProducedRecords}
@@ -24,8 +26,7 @@ use Rattle.broker_world.specs.World.{TopicValue, LogValue}
 use Rattle.broker_world.specs.Logs.{log_at}
 use Rattle.data_handlers.specs.Judged.{partition_at, batch_to_append, topics_produced}
 use Rattle.data_handlers.specs.Produce.{produce_answer}
-use Rattle.data_handlers.specs.Fetch.{budget_for, budget_after_batches, is_outside, served_at, fetched_partition, budget_after, batch_bytes}
-use Rattle.data_handlers.specs.ListOffsets.{listed_offset}
+use Rattle.data_handlers.specs.Fetch.{budget_for, budget_after_batches, is_outside, fetched_partition, budget_after, batch_bytes}
 
 -- ---- Produce
 
@@ -141,10 +142,14 @@ pub record IsListed (offset : ℤ) (p : WantedOffset) (answer : FoundOffset) : T
   pub timestamp : answer.timestamp ≡ negsuc 0
   pub at : answer.offset ≡ offset
 
+-- what a partition of a ListOffsets is told
+abbrev pub ListRule : Type 0
+ListRule = Isolation → List TopicValue → List ℕ → WantedOffset → FoundOffset
+
 -- of a partition that is there: for -1 the end of the log, or for read_committed the last stable
 -- offset, the start for -2, and for any other timestamp the code 42; of one that isn't there the
 -- code 3, whatever is wanted
-pub record ListsEnds : Type 0 where
+pub record ListsEnds (listed_offset : ListRule) : Type 0 where
   pub uncommitted : (topics : List TopicValue) (name : List ℕ) (p : WantedOffset) (log : LogValue)
       → log_at topics name p.index ≡ Some log → p.timestamp ≡ negsuc 0
       → IsListed (end_of log) p (listed_offset ReadUncommitted topics name p)
@@ -200,8 +205,13 @@ pub record IsUnserved (budget : FetchBudget) (p : FetchPartition) (answer : Fetc
   pub stable : answer.last_stable_offset ≡ negsuc 0
   pub left : next ≡ budget
 
+-- what is served of a partition of a Fetch, or why nothing is
+abbrev pub ServedRule : Type 0
+ServedRule = Isolation → List TopicValue → FetchBudget → List ℕ → FetchPartition
+    → Result Served ErrorCode
+
 -- an offset within the log is served, and one outside it or of a partition that isn't there is not
-pub record FetchesRuns : Type 0 where
+pub record FetchesRuns (served_at : ServedRule) : Type 0 where
   pub within : (level : Isolation) (topics : List TopicValue) (budget : FetchBudget) (name : List ℕ)
       (p : FetchPartition) (log : LogValue)
       → log_at topics name p.index ≡ Some log → is_outside log p.offset ≡ false

@@ -10,8 +10,8 @@ use Rattle.msg_admin.specs.declared.request.Request.{Request}
 use Rattle.msg_admin.specs.declared.request.Request.TheVariants as requests
 use Rattle.audit_trail.specs.declared.event.Event.TheVariants.{Ask}
 use Rattle.broker_world.specs.World.{World}
-use Rattle.api_dispatch.specs.Step.{reply_to}
 use Rattle.api_laws.specs.ToldErrors.{all_errors}
+use Rattle.api_laws.specs.AskedTable.{AnswerRule}
 
 -- another epoch than the transactional id's is INVALID_PRODUCER_EPOCH, from version 2 on
 -- PRODUCER_FENCED (KIP-588)
@@ -92,8 +92,8 @@ abbrev pub IsAmong : List ℕ → ℤ → Type 0
 IsAmong numbers error = list_any (λ (n : ℕ). int_eq error (pos n)) (0 ∷ numbers) ≡ true
 
 -- whatever the world is and whoever asks, each error in an answer is one of its api's
-abbrev pub ErrorsByTable : Type 0
-ErrorsByTable =
+abbrev pub ErrorsByTable : AnswerRule → Type 0
+ErrorsByTable reply_to =
     (w : World) (caller : Caller) (client : Option (List ℕ)) (request : Request)
     → AllByRecursion (IsAmong (errors_of request))
     (all_errors (reply_to w (Ask caller client request)))

@@ -12,9 +12,9 @@ use Rattle.authorizer.specs.Policy.{verdict}
 use Rattle.wire_types.specs.declared.topic.Topic.{Topic}
 use Rattle.msg_admin.specs.declared.request.Request.{Request}
 use Rattle.msg_admin.specs.declared.request.Request.TheVariants as requests
+use Rattle.audit_trail.specs.declared.event.Event.{Event}
 use Rattle.audit_trail.specs.declared.event.Event.TheVariants.{Ask}
 use Rattle.broker_world.specs.World.{World}
-use Rattle.api_dispatch.specs.Step.{refusals_of}
 use Rattle.api_laws.specs.AskedTable.{Row, row_question, request_rows, topic_rows, first_refused}
 
 -- ---- what each part asks, in order; a null list has no part
@@ -68,9 +68,13 @@ row_refusal w caller r =
       why = reason (verdict w.book w.supers (row_question caller r));
     }
 
--- one refusal for each of them, in order, and no other
-abbrev pub RefusalsByTable : Type 0
-RefusalsByTable =
+-- the refusals that the trail keeps of an event
+abbrev pub RefusalsRule : Type 0
+RefusalsRule = World → Event → List Refusal
+
+-- the refusals of a request are one for each of its refused rows, in order, and no other
+abbrev pub RefusalsByTable : RefusalsRule → Type 0
+RefusalsByTable refusals_of =
     (w : World) (caller : Caller) (client : Option (List ℕ)) (request : Request)
     → refusals_of w (Ask caller client request)
     ≡ map (row_refusal w caller) (refused_rows w caller request)

@@ -2,12 +2,13 @@
 
 ghost use Rattle.acl_handlers.specs.CreateAcls.{create_acls_outcome};
 ghost use Rattle.acl_handlers.specs.DeleteAcls.{delete_acls_outcome};
-ghost use Rattle.api_dispatch.specs.Step.{reply_to};
+ghost use Rattle.api_dispatch.specs.Step.{refusals_of, reply_to};
 ghost use Rattle.msg_admin.specs.Response.{response};
-ghost use Rattle.data_handlers.specs.Fetch.{fetch_outcome};
-ghost use Rattle.data_handlers.specs.Metadata.{metadata_topics};
+ghost use Rattle.data_handlers.specs.Fetch.{fetch_outcome, served_at};
+ghost use Rattle.data_handlers.specs.Metadata.{metadata_topics, topic_refusals};
 ghost use Rattle.partition_log.specs.Fetch.{served_of};
 ghost use Rattle.walk.specs.Codes.{refusal_code};
+ghost use Rattle.data_handlers.specs.ListOffsets.{listed_offset};
 ghost use Rattle.api_laws.specs.Runs.{WholeRuns};
 ghost use Rattle.api_laws.specs.Headline.{AnswersEachTopic, RefusesEachTopic, NullTellsDescribable};
 ghost use Rattle.api_laws.specs.Framing.{ResponsesAreFramed};
@@ -35,7 +36,7 @@ ghost use Rattle.api_laws.specs.KeptOut.{RefusedKeepsOut};
 ghost use Rattle.api_laws.specs.Unchanged.{ErrorsChangeNothing};
 ghost use Rattle.api_laws.specs.BareAnswers.{RefusalsTellNothing};
 ghost use Rattle.api_laws.specs.ErrorCases.{ErrorsAreAnswered};
-ghost use Rattle.api_laws.specs.Wrong.{code_of_ids_as_groups, code_of_topics, creating_alone, creating_nothing, deleting_everything, deleting_nothing, fetch_keeping_the_budget, fetch_without_max_bytes, reply_to_alterers, reply_to_anybody, reply_without_brokers, reply_without_leaders, response_under_another_id, response_without_size, serving_one_less, serving_to_the_end, serving_too_much, topics_for_everybody, topics_for_nobody};
+ghost use Rattle.api_laws.specs.Wrong.{code_of_ids_as_groups, code_of_topics, creating_alone, creating_nothing, creating_unasked, deleting_everything, deleting_nothing, deleting_unasked, fetch_keeping_the_budget, fetch_without_max_bytes, first_refusal_of, first_refused_topic, listing_the_end, listing_the_last, refusals_of_no_topic, refusals_without_bindings, reply_ids_as_groups, reply_to_alterers, reply_to_anybody, reply_unfenced, reply_with_acls, reply_with_ends, reply_without_brokers, reply_without_leaders, response_under_another_id, response_without_size, serving_from_the_start, serving_one_less, serving_stable_as_high, serving_to_the_end, serving_too_much, topics_for_everybody, topics_for_nobody, topics_left_out, topics_unasked};
 
 /// A list of events that a core takes without a stop gives a receipt for each event, in order, and leaves the core in the state
 /// to which these events lead.
@@ -46,13 +47,17 @@ pub fn whole_runs()
 /// Each topic that a Metadata request names is answered at its place: one that may not be described by TOPIC_AUTHORIZATION_FAILED
 /// (29), any other as by a broker without access control.
 pub fn metadata_answers_each_topic()
-    ensures { AnswersEachTopic }
+    ensures answered { AnswersEachTopic metadata_topics }
+    ensures asked { ¬ AnswersEachTopic topics_unasked }
+    ensures each { ¬ AnswersEachTopic topics_left_out }
 {}
 
 /// The refusals that the trail keeps of a Metadata request are those of the named topics that may not be described, in order. A
 /// null list, which asks for all topics, has none.
 pub fn metadata_refuses_each_topic()
-    ensures { RefusesEachTopic }
+    ensures refused { RefusesEachTopic topic_refusals }
+    ensures something { ¬ RefusesEachTopic refusals_of_no_topic }
+    ensures all { ¬ RefusesEachTopic first_refused_topic }
 {}
 
 /// A Metadata request with a null list, which asks for all topics, is told exactly those that the caller may describe, each as
@@ -116,7 +121,9 @@ pub fn produces_as_answered()
 
 /// An allowed partition of a Fetch is served a run of its log's batches, whose bytes are taken off the budget that is left.
 pub fn fetches_runs()
-    ensures { FetchesRuns }
+    ensures served { FetchesRuns served_at }
+    ensures high { ¬ FetchesRuns serving_stable_as_high }
+    ensures outside { ¬ FetchesRuns serving_from_the_start }
 {}
 
 /// The batches of a Fetch response have together at most the request's max_bytes, and those of a partition at most the
@@ -131,7 +138,9 @@ pub fn fetch_is_within()
 /// offset, and for -2 the start. Any other timestamp is INVALID_REQUEST (42), and a partition that isn't there
 /// UNKNOWN_TOPIC_OR_PARTITION (3).
 pub fn lists_ends()
-    ensures { ListsEnds }
+    ensures listed { ListsEnds listed_offset }
+    ensures until_stable { ¬ ListsEnds listing_the_end }
+    ensures after_it { ¬ ListsEnds listing_the_last }
 {}
 
 /// A Produce leaves each topic to which it may not write as it was.
@@ -184,7 +193,9 @@ pub fn describes_each()
 
 /// A CreateAcls or DeleteAcls that the ACLs of before don't allow changes nothing.
 pub fn refused_edit_nothing()
-    ensures { RefusedEditNothing }
+    ensures unchanged { RefusedEditNothing create_acls_outcome delete_acls_outcome }
+    ensures asked_to_create { ¬ RefusedEditNothing creating_unasked delete_acls_outcome }
+    ensures asked_to_delete { ¬ RefusedEditNothing create_acls_outcome deleting_unasked }
 {}
 
 /// What DescribeAcls, CreateAcls and DeleteAcls are answered, and which ACLs they leave, depends on no topic, group or
@@ -299,12 +310,16 @@ pub fn asks_by_table()
 /// The refusals that the trail keeps of a request are those of the same table: for each refused part the first of its rows that
 /// isn't granted, with the verdict on it, in the parts' order.
 pub fn refusals_by_table()
-    ensures { RefusalsByTable }
+    ensures told { RefusalsByTable refusals_of }
+    ensures by_binding { ¬ RefusalsByTable refusals_without_bindings }
+    ensures each { ¬ RefusalsByTable first_refusal_of }
 {}
 
 /// Each error code in an answer is 0, or one of those that a table lists for its api.
 pub fn errors_by_table()
-    ensures { ErrorsByTable }
+    ensures listed { ErrorsByTable reply_to }
+    ensures by_kind { ¬ ErrorsByTable reply_ids_as_groups }
+    ensures fenced { ¬ ErrorsByTable reply_unfenced }
 {}
 
 /// Where one partition of an AddPartitionsToTxn is refused, none is added: each of the others is told OPERATION_NOT_ATTEMPTED
@@ -323,7 +338,9 @@ pub fn errors_change_nothing()
 /// A request that isn't allowed, and a part of one at its place, is told its error alone: no offset, no records, no members, no
 /// producer id and no ACLs.
 pub fn refusals_tell_nothing()
-    ensures { RefusalsTellNothing }
+    ensures bare { RefusalsTellNothing reply_to }
+    ensures no_acls { ¬ RefusalsTellNothing reply_with_acls }
+    ensures no_offsets { ¬ RefusalsTellNothing reply_with_ends }
 {}
 
 /// Each error code that the table lists for an api is answered to some request of that api in some world.
