@@ -19,7 +19,7 @@ use Rattle.authorizer.specs.declared.answer.Refusal.{Refusal}
 use Rattle.authorizer.specs.Asking.{Rules, part_refusal}
 use Rattle.broker_world.specs.World.{World, rules_of}
 use Rattle.broker_world.specs.Whole.{Served, whole_outcome_by, whole_outcome}
-use Rattle.acl_handlers.specs.DescribeAcls.{describe_acls_questions, describe_acls_reply}
+use Rattle.acl_handlers.specs.DescribeAcls.{describe_acls_questions, describe_acls_reply, describe_acls_outcome}
 use Rattle.acl_handlers.specs.CreateAcls.{alter_questions, book_with, book_created, create_acls_outcome}
 use Rattle.acl_handlers.specs.DeleteAcls.{book_without, book_deleted, deletion_results, delete_acls_reply, delete_acls_outcome}
 use Rattle.api_laws.specs.AclLaws.{IsOfEntry, AreCreated, CreatesEach, StandsIn, AreDeleted, DeletesEach, IsRefusedWhole, RefusedEditNothing, SameEdit, AclsDependOnTheBook, AclsKeepTopics}
@@ -216,7 +216,7 @@ same_whole v w questions refused s t rules reply after =
     subst (λ (o : Option Refusal). SameEdit (whole_outcome_by o v refused s) (whole_outcome w questions refused t)) (sym asked)
     (same_by (part_refusal (rules_of w) questions) v w refused s t (ap (λ (r : Rules). r.book) rules) reply after)
 
-pub acls_depend : AclsDependOnTheBook
+pub acls_depend : AclsDependOnTheBook describe_acls_outcome create_acls_outcome
 acls_depend = record {
   describe = λ v w caller r base.
       let same = ap (λ (rules : Rules). rules.book) base.rules in
@@ -229,7 +229,7 @@ acls_depend = record {
       same_whole v w (alter_questions caller) _ _ _ base.rules (ap (λ (b : BookValue). replies.DeleteAcls (delete_acls_reply (deletion_results b r.filters))) same) (ap (λ (b : BookValue). book_deleted b r.filters) same);
 }
 
-pub acls_keep_topics : AclsKeepTopics
+pub acls_keep_topics : AclsKeepTopics create_acls_outcome
 acls_keep_topics = record {
   create = λ w caller r. whole_topics (part_refusal (rules_of w) (alter_questions caller)) w _ _ refl;
   delete = λ w caller r. whole_topics (part_refusal (rules_of w) (alter_questions caller)) w _ _ refl;

@@ -46,9 +46,9 @@ use Rattle.txn_coordinator.specs.Holding.{holding_code_of}
 use Rattle.data_handlers.specs.Judged.{partition_at, id_and_epoch_of, held_code, given_code, producer_code, batch_or_error_by, batch_or_error, batch_in, are_acks, batch_to_append, topics_produced}
 use Rattle.broker_world.specs.Codes.{code_unless_none}
 use Rattle.data_handlers.specs.Sent.{batch_or_fault}
-use Rattle.data_handlers.specs.Produce.{produce_questions, produce_answer, produce_answer_by, produce_rule, producing_rule, produce_reply}
-use Rattle.data_handlers.specs.Fetch.{served_by, served_at, fetched_partition, budget_after, fetch_rule, whole_budget}
-use Rattle.data_handlers.specs.ListOffsets.{listed_offset_by, list_rule}
+use Rattle.data_handlers.specs.Produce.{produce_questions, produce_answer, produce_answer_by, produce_rule, producing_rule, produce_reply, produce_outcome}
+use Rattle.data_handlers.specs.Fetch.{served_by, served_at, fetched_partition, budget_after, fetch_rule, whole_budget, fetch_outcome}
+use Rattle.data_handlers.specs.ListOffsets.{listed_offset_by, list_rule, list_offsets_outcome}
 use Rattle.api_laws.proofs.Recorded.{same_owner}
 use Rattle.api_laws.specs.Tenants.{SameGranted, SameOn}
 use Rattle.api_laws.specs.DataTenants.{FetchDependsOnGrants, ListOffsetsDependsOnGrants, ProduceDependsOnGrants, ProduceKeepsTheRest}
@@ -87,7 +87,7 @@ fetch_alike v w caller level = record {
       ∙ ap (budget_after b) (same_served level v.topics w.topics a b name p (same_topic v w (question_of caller operations.Read kinds.Topic name) is none) budget);
 }
 
-pub fetch_depends : FetchDependsOnGrants
+pub fetch_depends : FetchDependsOnGrants fetch_outcome
 fetch_depends v w caller r base same =
     let alike = answer_alike (fetch_rule caller r.isolation v.topics) (fetch_rule caller r.isolation w.topics) (rules_of w) (λ name p. SameGranted v w ((fetch_rule caller r.isolation w.topics).questions name p)) (λ a b. a ≡ b) (fetch_alike v w caller r.isolation) (whole_budget r) (whole_budget r) r.topics same refl in
     let told = ap (λ (rules : Rules). answers (fetch_rule caller r.isolation v.topics) rules (whole_budget r) r.topics) base.rules ∙ alike.answers in
@@ -106,7 +106,7 @@ list_alike v w caller level = record {
   after = λ a b name p is world none. world;
 }
 
-pub list_offsets_depends : ListOffsetsDependsOnGrants
+pub list_offsets_depends : ListOffsetsDependsOnGrants list_offsets_outcome
 list_offsets_depends v w caller r base same =
     let alike = answer_alike (list_rule caller r.isolation v.topics) (list_rule caller r.isolation w.topics) (rules_of w) (λ name p. SameGranted v w ((list_rule caller r.isolation w.topics).questions name p)) (λ a b. a ≡ b) (list_alike v w caller r.isolation) tt tt r.topics same refl in
     let told = ap (λ (rules : Rules). answers (list_rule caller r.isolation v.topics) rules tt r.topics) base.rules ∙ alike.answers in
@@ -256,7 +256,7 @@ produce_alike rules caller most a b id acks ts given = record {
       (find_after batch us vs name other p.index both.0 (agree other named granted).0 ∙ ap (λ r. find_topic (topics_produced r vs name p.index) other) same, (agree other named granted).1);
 }
 
-pub produce_depends : ProduceDependsOnGrants
+pub produce_depends : ProduceDependsOnGrants produce_outcome
 produce_depends v w caller r base same =
     let alike = answer_alike (produce_rule caller (non_negative w.node.max_batch) v.coordinator r.transactional_id r.acks) (producing_rule w caller r) (rules_of w) (λ name p. Named name r.topics) (AgreeBoth (rules_of w) caller r.transactional_id v.coordinator w.coordinator r.topics)
     (produce_alike (rules_of w) caller (non_negative w.node.max_batch) v.coordinator w.coordinator r.transactional_id r.acks r.topics base.given) v.topics w.topics r.topics
@@ -301,7 +301,7 @@ kept_topics rules caller most c id acks other refused topics [] = refl
 kept_topics rules caller most c id acks other refused topics (t ∷ ts) =
     kept_topics rules caller most c id acks other refused (parts_world (produce_rule caller most c id acks) rules topics t.name t.partitions) ts ∙ kept_parts rules caller most c id acks other refused topics t.name t.partitions
 
-pub produce_keeps : ProduceKeepsTheRest
+pub produce_keeps : ProduceKeepsTheRest produce_outcome
 produce_keeps w caller r name refused =
     ap (λ (topics : List TopicValue). find_topic topics name) (sym (woven (producing_rule w caller r) (rules_of w) w.topics r.topics).world)
     ∙ kept_topics (rules_of w) caller (non_negative w.node.max_batch) w.coordinator r.transactional_id r.acks name refused w.topics r.topics

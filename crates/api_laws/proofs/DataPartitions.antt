@@ -19,7 +19,7 @@ use Rattle.broker_world.specs.First.{non_negative}
 use Rattle.broker_world.specs.Logs.{log_after, log_in, log_of, log_at, logs_with, with_log, topics_with_batch_by}
 use Rattle.txn_coordinator.specs.Coordinator.{CoordinatorValue}
 use Rattle.data_handlers.specs.Judged.{partition_at, batch_to_append, topics_produced}
-use Rattle.data_handlers.specs.Produce.{produce_questions, produce_rule, producing_rule}
+use Rattle.data_handlers.specs.Produce.{produce_questions, produce_rule, producing_rule, produce_outcome}
 use Rattle.api_laws.specs.DataTenants.{IsAnother, ProduceKeepsOtherPartitions}
 use Rattle.api_laws.proofs.DataGrants.{find_same, find_other}
 
@@ -82,7 +82,7 @@ module _ (rules : Rules) (caller : Caller) (most : ℕ) (c : CoordinatorValue) (
   topics_kept topics (t ∷ ts) others =
       topics_kept (parts_world (produce_rule caller most c id acks) rules topics t.name t.partitions) ts others.1 ∙ parts_kept topics t.name t.partitions others.0
 
-pub produce_keeps_partitions : ProduceKeepsOtherPartitions
+pub produce_keeps_partitions : ProduceKeepsOtherPartitions produce_outcome
 produce_keeps_partitions w caller r name index others =
     ap (λ (topics : List TopicValue). log_at topics name index) (sym (woven (producing_rule w caller r) (rules_of w) w.topics r.topics).world)
     ∙ topics_kept (rules_of w) caller (non_negative w.node.max_batch) w.coordinator r.transactional_id r.acks name index w.topics r.topics others

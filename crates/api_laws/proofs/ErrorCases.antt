@@ -125,11 +125,11 @@ abbrev no_producer : List ℕ
 no_producer = replicate 14 255
 
 -- of no producer
-abbrev plain_batch : List ℕ
+abbrev pub plain_batch : List ℕ
 plain_batch = batch (52 ∷ 187 ∷ 146 ∷ 115 ∷ []) 0 no_producer
 
 -- compressed
-abbrev packed_batch : List ℕ
+abbrev pub packed_batch : List ℕ
 packed_batch = batch (116 ∷ 171 ∷ 243 ∷ 157 ∷ []) 1 no_producer
 
 -- with the time of its append
@@ -137,7 +137,7 @@ abbrev timed_batch : List ℕ
 timed_batch = batch (63 ∷ 224 ∷ 112 ∷ 225 ∷ []) 8 no_producer
 
 -- the first of producer 0
-abbrev first_batch : List ℕ
+abbrev pub first_batch : List ℕ
 first_batch = batch (92 ∷ 120 ∷ 134 ∷ 71 ∷ []) 0 (replicate 14 0)
 
 -- of producer 0, from its sequence number 5 on
@@ -145,7 +145,7 @@ abbrev gapped_batch : List ℕ
 gapped_batch = batch (168 ∷ 206 ∷ 2 ∷ 183 ∷ []) 0 (replicate 13 0 ++ 5 ∷ [])
 
 -- of a transaction of producer 0 in epoch 1
-abbrev other_batch : List ℕ
+abbrev pub other_batch : List ℕ
 other_batch = batch (184 ∷ 195 ∷ 78 ∷ 157 ∷ []) 16 (replicate 9 0 ++ 1 ∷ replicate 4 0)
 
 produces_2 : IsToldFor 0 2

@@ -17,7 +17,7 @@ use Rattle.broker_world.specs.Brokers.{brokers_of}
 use Rattle.broker_world.specs.World.{World, rules_of, find_topic, topic_names}
 use Rattle.walk.specs.Codes.{refusal_code}
 use Rattle.walk.specs.Weave.{weave}
-use Rattle.data_handlers.specs.Metadata.{plain_topic, plain_topics, topic_found, topic_error, describable, refused_topics, metadata_topics, metadata_refusals}
+use Rattle.data_handlers.specs.Metadata.{plain_topic, plain_topics, topic_found, topic_error, describable, refused_topics, metadata_topics, metadata_answer, metadata_refusals}
 use Rattle.api_laws.specs.Tenants.{SameBase, SameGranted, SameForMetadata, SameTopics, DependsOnGrants, topic_questions}
 
 -- a topic that is the same in both worlds is answered the same
@@ -44,7 +44,7 @@ same_answers : (v w : World) (caller : Caller) (topics : Option (List (List ℕ)
 same_answers v w caller (Some names) base h = ap (λ r. weave (refused_topics r caller (Some names)) (plain_topics v (describable r caller names))) base.rules ∙ same_named v w caller names base.node h
 same_answers v w caller None base h = ap (plain_topics v) h.names ∙ same_listed v w (describable (rules_of w) caller (topic_names w.topics)) base.node h.topics
 
-pub depends_on_grants : DependsOnGrants
+pub depends_on_grants : DependsOnGrants metadata_answer
 depends_on_grants v w caller m base h =
     let node = base.node in let topics = same_answers v w caller m.topics base h in
     (λ i. record { brokers = brokers_of (node i); controller = (node i).node_id; topics = topics i }, ap (λ r. metadata_refusals r caller m) base.rules)

@@ -254,7 +254,7 @@ module _ (v w : World) (caller : Caller) (base : SameBase v w) where
       subst (λ (o : Option Refusal). SameAnswer (offset_fetch_by o v caller r) (offset_fetch_outcome w caller r)) (same_refusal v w q base.rules)
       (fetches_by (part_refusal (rules_of w) (q ∷ [])) r (λ none. same.0 (yes_alone (verdict w.book w.supers q) q none)) wanted)
 
-pub groups_depend : GroupsDependOnGrants
+pub groups_depend : GroupsDependOnGrants join_group_outcome offset_fetch_outcome
 groups_depend = record {
   joins = λ v w caller r base same. joins v w caller base r same;
   syncs = λ v w caller r base same. syncs v w caller base r same;
@@ -316,7 +316,7 @@ module _ (rules : Rules) (caller : Caller) (c : Committing) (topics : List Topic
   topics_still gs [] = refl
   topics_still gs (t ∷ ts) = topics_still (parts_world (commit_rule caller c topics) rules gs t.name t.partitions) ts ∙ parts_still gs t.name t.partitions
 
-pub groups_keep : GroupsKeepTheRest
+pub groups_keep : GroupsKeepTheRest join_group_outcome
 groups_keep = record {
   joins = λ w caller r. whole_kept (part_refusal (rules_of w) (read_question caller r.group ∷ [])) w _ (served_join w r) r.group
       (λ other differ. kept_call w.groups (calls.Join r w.events w.moment) other (other_name r.group other differ)) refl refl;

@@ -72,7 +72,7 @@ gives_fresh w r none = record {
   others = λ id differ. ap (λ (c : CoordinatorValue). owner c id) (given_after w r none) ∙ others_as w.coordinator id differ;
 }
 
-pub inits_once : InitsOnce
+pub inits_once : InitsOnce init_producer_id_outcome
 inits_once = record {
   fresh = λ w caller r none allowed.
       subst (GivesFresh w)
@@ -148,7 +148,7 @@ same_by None v w caller r base same is = record {
 pub same_refusal : (v w : World) (q : Question) → rules_of v ≡ rules_of w → part_refusal (rules_of w) (q ∷ []) ≡ part_refusal (rules_of v) (q ∷ [])
 same_refusal v w q rules = ap (λ (r : Rules). part_refusal r (q ∷ [])) (sym rules)
 
-pub init_depends : InitDependsOnGrants
+pub init_depends : InitDependsOnGrants init_producer_id_outcome
 init_depends = record {
   same = λ v w caller r base same.
       subst (λ (o : Option Refusal). SameAnswer (served_by v r o) (init_producer_id_outcome w caller r)) (ap (λ (rules : Rules). part_refusal rules (init_questions rules caller r.transactional_id)) (sym base.rules))

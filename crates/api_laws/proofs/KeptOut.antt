@@ -16,6 +16,7 @@ use Rattle.walk.proofs.Weaving.{woven}
 use Rattle.broker_world.specs.World.{World, LogValue, rules_of}
 use Rattle.broker_world.specs.Logs.{log_at}
 use Rattle.txn_handlers.specs.AddPartitions.{add_questions, cut_code, cut_rule, is_missing, is_cut, cut_outcome, added_outcome}
+use Rattle.api_dispatch.specs.Step.{outcome}
 use Rattle.api_laws.specs.ToldErrors.{Place, TopicAt, PartitionAt, error_number, error_number_in, error_at}
 use Rattle.api_laws.specs.AskedTable.{Row, topic_rows, rows_for, rows_in, rows_at, first_refused}
 use Rattle.api_laws.specs.KeptOut.{not_attempted_code, RefusedKeepsOut}
@@ -119,7 +120,7 @@ module _ (w : World) (caller : Caller) (r : AddPartitionsToTxnRequest) where
   nothing_changed : (place : Place) → is_some (first_refused w caller (rows_at (requests.AddPartitionsToTxn r) place)) ≡ true → (cond (is_cut caller r.transactional_id w.topics (rules_of w) r.topics) (cut_outcome w caller r) (added_outcome w r)).world ≡ w
   nothing_changed place refused = ap (λ (b : Bool). (cond b (cut_outcome w caller r) (added_outcome w r)).world) (is_cut_by place refused)
 
-pub refused_keeps_out : RefusedKeepsOut
+pub refused_keeps_out : RefusedKeepsOut outcome
 refused_keeps_out = record {
   unchanged = λ w caller client r place refused. nothing_changed w caller r place refused;
   others = λ w caller client r place refused i j t index here there none. others_told w caller r place refused i j t index here there none;

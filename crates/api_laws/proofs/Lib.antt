@@ -41,3 +41,5 @@ pub mod BareAnswers
 pub mod ErrorCases
 pub mod Wrong
 pub mod WrongReads
+pub mod WrongTransactions
+pub mod WrongTenants

@@ -169,7 +169,7 @@ stages v w caller r base same =
       refusals = ap (λ (rules : Rules). refusals (staging_rule v caller r) rules r.topics) base.rules ∙ told.1;
     }
 
-pub staging_depends : StagingDependsOnGrants
+pub staging_depends : StagingDependsOnGrants add_offsets_outcome txn_offset_commit_outcome
 staging_depends = record { adds = adds; stages = stages }
 
 -- ---- what stays as it was
@@ -234,7 +234,7 @@ module _ (rules : Rules) (caller : Caller) (s : Staging) (refusal : Option Error
   topics_still gs [] = refl
   topics_still gs (t ∷ ts) = topics_still (parts_world (stage_rule caller s refusal topics) rules gs t.name t.partitions) ts ∙ parts_still gs t.name t.partitions
 
-pub staging_keeps : StagingKeepsTheRest
+pub staging_keeps : StagingKeepsTheRest add_offsets_outcome txn_offset_commit_outcome
 staging_keeps = record {
   adds = adds_kept;
   adds_groups = λ w caller r. whole_groups (part_refusal (rules_of w) (add_offsets_questions caller r.transactional_id r.group)) w r;

@@ -137,7 +137,7 @@ cut_where_one : (b : Bool) (w : World) (caller : Caller) (r : AddPartitionsToTxn
 cut_where_one true w caller r is = record { world = refl; reply = refl; refusals = refl }
 cut_where_one false w caller r is = absurd (is refl)
 
-pub adds_all_or_none : AddsAllOrNone
+pub adds_all_or_none : AddsAllOrNone add_partitions_outcome
 adds_all_or_none = record {
   all = λ w caller r all. whole_where_all (is_cut caller r.transactional_id w.topics (rules_of w) r.topics) w caller r (never_cut w caller r.transactional_id r.topics all);
   none = λ w caller r one. cut_where_one (is_cut caller r.transactional_id w.topics (rules_of w) r.topics) w caller r (λ is. one (topics_addable w caller r.transactional_id r.topics
@@ -310,7 +310,7 @@ end_others w caller r other differ =
     whole_kept (part_refusal (rules_of w) (end_questions caller r)) w _ (served_end w r) other
     (other_kept w.coordinator (ending_id r) other (end_transition w.coordinator r) (end_id w.coordinator (form_of r) (ending_id r) _ (ending_outcome r)) differ)
 
-pub keep_the_rest : TransactionsKeepTheRest
+pub keep_the_rest : TransactionsKeepTheRest init_producer_id_outcome add_partitions_outcome end_txn_outcome
 keep_the_rest = record {
   inits = λ w caller r id is. record {
     others = λ other differ. init_others w caller r id other is differ;
@@ -451,5 +451,5 @@ add_depends v w caller r base same = subst (λ (rules : Rules). SameAnswer (add_
       (subst (λ (b : Bool). SameAnswer (cond (is_missing w.topics r.topics) (record { world = v; reply = add_reply (answers (cut_rule caller r.transactional_id v.topics) (rules_of w) tt r.topics); refusals = refusals (cut_rule caller r.transactional_id v.topics) (rules_of w) r.topics }) (added_outcome v r)) (cond b (cut_outcome w caller r) (added_outcome w r))) (sym told)
       (by_missing (is_missing w.topics r.topics) added))
 
-pub transactions_depend : TransactionsDependOnGrants
+pub transactions_depend : TransactionsDependOnGrants end_txn_outcome add_partitions_outcome
 transactions_depend = record { ends = end_depends; adds = add_depends }

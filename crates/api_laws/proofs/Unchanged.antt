@@ -68,7 +68,7 @@ use Rattle.group_handlers.specs.Members.{join_error, join_reply, served_join, sy
 use Rattle.txn_handlers.specs.InitProducerId.{init_questions, init_error, coordinator_for, reply_for, served_init}
 use Rattle.txn_handlers.specs.AddOffsets.{add_offsets_questions, add_offsets_reply, add_offsets_transition, served_add_offsets}
 use Rattle.txn_handlers.specs.EndTxn.{form_of, ending_id, ending_id_and_epoch, ending_outcome, end_questions, end_error, end_transition, served_end}
-use Rattle.api_dispatch.specs.Step.{request_outcome}
+use Rattle.api_dispatch.specs.Step.{request_outcome, outcome}
 use Rattle.api_laws.specs.ToldErrors.{errors_itself, Place, TopicAt, PartitionAt, error_number, error_number_in, partition_error_at, error_at, partition_errors, all_errors}
 use Rattle.api_laws.specs.Unchanged.{is_all_or_nothing, is_by_parts, IsError, ErrorsChangeNothing}
 use Rattle.api_laws.proofs.AskedTable.{end_told}
@@ -361,7 +361,7 @@ adds_still w caller r place error false is bad =
     transition_unchanged w (add_transition w.coordinator w.moment r) (add_well w.coordinator r.transactional_id (record { producer = r.producer; epoch = r.epoch }) w.moment (partitions_of r.topics))
     (λ zeroes. bad (sym (one_code_at (transition_code (add_transition w.coordinator w.moment r)) r.topics place error is) ∙ head_of (number_of (transition_code (add_transition w.coordinator w.moment r))) (pos 0) zeroes))
 
-pub errors_change_nothing : ErrorsChangeNothing
+pub errors_change_nothing : ErrorsChangeNothing outcome
 errors_change_nothing = record {
   whole = λ w caller client request one bad. unchanged w caller request one bad;
   init = λ w caller client r bad worse. init_whole (part_refusal (rules_of w) (init_questions (rules_of w) caller r.transactional_id)) w r bad worse;

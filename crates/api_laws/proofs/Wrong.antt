@@ -208,7 +208,7 @@ not_brokerless law =
 
 -- ---- edits of the book
 
-abbrev entry : BindingEntry
+abbrev pub entry : BindingEntry
 entry = record { kind = pos 4; name = bytes "kafka-cluster"; pattern = pos 3; principal = bytes "User:ann"; host = bytes "*"; operation = pos 8; permission = pos 3 }
 
 pub not_creating_nothing : ¬ CreatesEach creating_nothing

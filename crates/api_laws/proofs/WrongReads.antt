@@ -36,7 +36,7 @@ use Rattle.api_laws.specs.AclLaws.{RefusedEditNothing}
 use Rattle.api_laws.specs.Wrong.{topics_unasked, topics_left_out, refusals_of_no_topic, first_refused_topic, listing_the_end, listing_the_last, serving_stable_as_high, serving_from_the_start, refusals_without_bindings, first_refusal_of, reply_with_acls, reply_with_ends, reply_ids_as_groups, reply_unfenced, creating_unasked, deleting_unasked}
 use Rattle.api_laws.proofs.Wrong.{w, root, ann, batch, any_entry}
 
-abbrev a : List ℕ
+abbrev pub a : List ℕ
 a = bytes "a"
 
 -- ---- Metadata of a named topic
@@ -63,7 +63,7 @@ not_first_topic law = let clash : ◌≡◌ {A = ℕ} 1 2 = ap (λ (rs : List Re
 abbrev opened : List TopicValue
 opened = record { name = a; partitions = (batch (pos 16) ∷ []) ∷ [] } ∷ []
 
-abbrev latest : WantedOffset
+abbrev pub latest : WantedOffset
 latest = record { index = pos 0; timestamp = negsuc 0 }
 
 pub not_listing_the_end : ¬ ListsEnds listing_the_end
@@ -77,7 +77,7 @@ not_listing_the_last law = let clash : pos 0 ≡ pos 1 = (law.uncommitted opened
 abbrev room : FetchBudget
 room = record { left = 100; given = false }
 
-abbrev from : ℤ → FetchPartition
+abbrev pub from : ℤ → FetchPartition
 from offset = record { index = pos 0; offset = offset; max_bytes = pos 100 }
 
 pub not_stable_as_high : ¬ FetchesRuns serving_stable_as_high
@@ -139,7 +139,7 @@ unfolding number_of
 not_reply_ids_as_groups law = let clash : false ≡ true = (law w ann None (requests.FindCoordinator (record { key = a; key_type = pos 1 }))).0 in cc
 
 -- the transactional id `x` has producer 0 in epoch 3
-abbrev in_epoch : CoordinatorValue
+abbrev pub in_epoch : CoordinatorValue
 in_epoch = record { transactions = record { id = bytes "x"; pair = record { producer = pos 0; epoch = pos 3 }; timeout = 10; start = 0; state = Ongoing; partitions = []; groups = []; kept = None } ∷ []; given = Some (bytes "x") ∷ []; warrants = [] }
 
 pub not_unfenced : ¬ ErrorsByTable reply_unfenced

@@ -16,9 +16,8 @@ use Rattle.authorizer.specs.declared.answer.Refusal.{Refusal}
 use Rattle.authorizer.specs.Asking.{part_refusal}
 use Rattle.broker_world.specs.World.{World, rules_of}
 use Rattle.broker_world.specs.HandlerResult.{HandlerResult}
-use Rattle.acl_handlers.specs.CreateAcls.{alter_questions, create_acls_outcome}
+use Rattle.acl_handlers.specs.CreateAcls.{alter_questions}
 use Rattle.acl_handlers.specs.DeleteAcls.{delete_acls_outcome}
-use Rattle.acl_handlers.specs.DescribeAcls.{describe_acls_outcome}
 use Rattle.api_laws.specs.Tenants.{SameBase}
 use Rattle.api_laws.specs.DataTenants.{SameAnswer}
 
@@ -91,7 +90,13 @@ pub record SameEdit (a b : HandlerResult) : Type 0 where
   pub answer : SameAnswer a b
   pub book : a.world.book ≡ b.world.book
 
-pub record AclsDependOnTheBook : Type 0 where
+-- what a DescribeAcls comes to
+abbrev pub DescribeAclsRule : Type 0
+DescribeAclsRule = World → Caller → DescribeAclsRequest → HandlerResult
+
+-- what is answered about ACLs, and which there are, depends on the book alone
+pub record AclsDependOnTheBook (describe_acls_outcome : DescribeAclsRule)
+    (create_acls_outcome : CreateRule) : Type 0 where
   pub describe : (v w : World) (caller : Caller) (r : DescribeAclsRequest) → SameBase v w
       → SameEdit (describe_acls_outcome v caller r) (describe_acls_outcome w caller r)
   pub create : (v w : World) (caller : Caller) (r : CreateAclsRequest) → SameBase v w
@@ -100,7 +105,7 @@ pub record AclsDependOnTheBook : Type 0 where
       → SameEdit (delete_acls_outcome v caller r) (delete_acls_outcome w caller r)
 
 -- no log is touched
-pub record AclsKeepTopics : Type 0 where
+pub record AclsKeepTopics (create_acls_outcome : CreateRule) : Type 0 where
   pub create : (w : World) (caller : Caller) (r : CreateAclsRequest)
       → (create_acls_outcome w caller r).world.topics ≡ w.topics
   pub delete : (w : World) (caller : Caller) (r : DeleteAclsRequest)

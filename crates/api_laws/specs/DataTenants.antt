@@ -13,10 +13,11 @@ use Rattle.walk.specs.Alike.{AllTopics}
 use Rattle.broker_world.specs.World.{World, rules_of, find_topic}
 use Rattle.broker_world.specs.Logs.{log_at}
 use Rattle.broker_world.specs.HandlerResult.{HandlerResult}
-use Rattle.data_handlers.specs.Produce.{produce_questions, producing_rule, produce_outcome}
-use Rattle.data_handlers.specs.Fetch.{fetch_rule, fetch_outcome}
-use Rattle.data_handlers.specs.ListOffsets.{list_rule, list_offsets_outcome}
+use Rattle.data_handlers.specs.Produce.{produce_questions, producing_rule}
+use Rattle.data_handlers.specs.Fetch.{fetch_rule}
+use Rattle.data_handlers.specs.ListOffsets.{list_rule}
 use Rattle.api_laws.specs.Tenants.{SameBase, SameGranted}
+use Rattle.api_laws.specs.FetchSizes.{FetchRule}
 
 -- the worlds agree on what each question of a part is about that is granted
 abbrev pub SameForParts : {P A W : Type 0} → World → World → PartRule P A W → List (Topic P)
@@ -28,28 +29,37 @@ pub record SameAnswer (a b : HandlerResult) : Type 0 where
   pub reply : a.reply ≡ b.reply
   pub refusals : a.refusals ≡ b.refusals
 
+-- what a Produce and a ListOffsets come to
+abbrev pub ProduceRule : Type 0
+ProduceRule = World → Caller → ProduceRequest → HandlerResult
+
+abbrev pub ListOffsetsRule : Type 0
+ListOffsetsRule = World → Caller → ListOffsetsRequest → HandlerResult
+
 -- worlds that agree on what a request was granted give it the same answer
-abbrev pub FetchDependsOnGrants : Type 0
-FetchDependsOnGrants =
+abbrev pub FetchDependsOnGrants : FetchRule → Type 0
+FetchDependsOnGrants fetch_outcome =
     (v w : World) (caller : Caller) (r : FetchRequest) → SameBase v w
     → SameForParts v w (fetch_rule caller r.isolation w.topics) r.topics
     → SameAnswer (fetch_outcome v caller r) (fetch_outcome w caller r)
 
-abbrev pub ListOffsetsDependsOnGrants : Type 0
-ListOffsetsDependsOnGrants =
+-- and so they answer a ListOffsets
+abbrev pub ListOffsetsDependsOnGrants : ListOffsetsRule → Type 0
+ListOffsetsDependsOnGrants list_offsets_outcome =
     (v w : World) (caller : Caller) (r : ListOffsetsRequest) → SameBase v w
     → SameForParts v w (list_rule caller r.isolation w.topics) r.topics
     → SameAnswer (list_offsets_outcome v caller r) (list_offsets_outcome w caller r)
 
-abbrev pub ProduceDependsOnGrants : Type 0
-ProduceDependsOnGrants =
+-- and so they answer a Produce
+abbrev pub ProduceDependsOnGrants : ProduceRule → Type 0
+ProduceDependsOnGrants produce_outcome =
     (v w : World) (caller : Caller) (r : ProduceRequest) → SameBase v w
     → SameForParts v w (producing_rule w caller r) r.topics
     → SameAnswer (produce_outcome v caller r) (produce_outcome w caller r)
 
 -- a topic that a Produce was not granted is as before
-abbrev pub ProduceKeepsTheRest : Type 0
-ProduceKeepsTheRest =
+abbrev pub ProduceKeepsTheRest : ProduceRule → Type 0
+ProduceKeepsTheRest produce_outcome =
     (w : World) (caller : Caller) (r : ProduceRequest) (name : List ℕ)
     → (part_refusal (rules_of w) (produce_questions caller r.transactional_id name) ≡ None → ⊥)
     → find_topic (produce_outcome w caller r).world.topics name ≡ find_topic w.topics name
@@ -62,8 +72,8 @@ IsAnother rules caller id name index n p =
 
 -- a partition for which a Produce has no part that was granted is as before, whatever the other
 -- partitions are sent
-abbrev pub ProduceKeepsOtherPartitions : Type 0
-ProduceKeepsOtherPartitions =
+abbrev pub ProduceKeepsOtherPartitions : ProduceRule → Type 0
+ProduceKeepsOtherPartitions produce_outcome =
     (w : World) (caller : Caller) (r : ProduceRequest) (name : List ℕ) (index : ℤ)
     → AllTopics (IsAnother (rules_of w) caller r.transactional_id name index) r.topics
     → log_at (produce_outcome w caller r).world.topics name index ≡ log_at w.topics name index

@@ -17,10 +17,10 @@ use Rattle.broker_world.specs.World.{World, TopicValue, rules_of}
 use Rattle.broker_world.specs.HandlerResult.{HandlerResult}
 use Rattle.broker_world.specs.Questions.{topic_refusal}
 use Rattle.broker_world.specs.Questions.{read_question}
-use Rattle.group_handlers.specs.Members.{join_group_outcome, sync_group_outcome, heartbeat_outcome, leave_group_outcome}
+use Rattle.group_handlers.specs.Members.{sync_group_outcome, heartbeat_outcome, leave_group_outcome}
 use Rattle.group_handlers.specs.FindCoordinator.{find_coordinator_outcome}
 use Rattle.group_handlers.specs.OffsetCommit.{committing_rule, offset_commit_outcome}
-use Rattle.group_handlers.specs.OffsetFetch.{group_question, offset_fetch_outcome}
+use Rattle.group_handlers.specs.OffsetFetch.{group_question}
 use Rattle.api_laws.specs.Tenants.{SameBase, SameGranted}
 use Rattle.api_laws.specs.DataTenants.{SameForParts, SameAnswer}
 use Rattle.api_laws.specs.AclLaws.{IsRefusedWhole}
@@ -38,8 +38,16 @@ SameWanted v w caller None =
     described_slots (rules_of v) caller v.topics ≡ described_slots (rules_of w) caller w.topics
 SameWanted v w caller (Some ts) = Unit {0}
 
+-- what an OffsetFetch and a JoinGroup come to
+abbrev pub OffsetFetchRule : Type 0
+OffsetFetchRule = World → Caller → OffsetFetchRequest → HandlerResult
+
+abbrev pub JoinRule : Type 0
+JoinRule = World → Caller → JoinGroupRequest → HandlerResult
+
 -- Worlds that agree on what is granted of a request give it the same answer.
-pub record GroupsDependOnGrants : Type 0 where
+pub record GroupsDependOnGrants (join_group_outcome : JoinRule)
+    (offset_fetch_outcome : OffsetFetchRule) : Type 0 where
   pub joins : (v w : World) (caller : Caller) (r : JoinGroupRequest) → SameBase v w
       → SameGranted v w (read_question caller r.group ∷ [])
       → SameAnswer (join_group_outcome v caller r) (join_group_outcome w caller r)
@@ -70,7 +78,8 @@ pub record KeepsOtherGroups (w : World) (group : List ℕ) (o : HandlerResult) :
   pub topics : o.world.topics ≡ w.topics
   pub coordinator : o.world.coordinator ≡ w.coordinator
 
-pub record GroupsKeepTheRest : Type 0 where
+-- a request about one group leaves each other one as it was
+pub record GroupsKeepTheRest (join_group_outcome : JoinRule) : Type 0 where
   pub joins : (w : World) (caller : Caller) (r : JoinGroupRequest)
       → KeepsOtherGroups w r.group (join_group_outcome w caller r)
   pub syncs : (w : World) (caller : Caller) (r : SyncGroupRequest)

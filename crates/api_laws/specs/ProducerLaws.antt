@@ -19,7 +19,7 @@ use Rattle.broker_world.specs.World.{World, LogValue, rules_of}
 use Rattle.broker_world.specs.First.{first_world}
 use Rattle.broker_world.specs.Logs.{log_at}
 use Rattle.broker_world.specs.HandlerResult.{HandlerResult}
-use Rattle.txn_handlers.specs.InitProducerId.{init_question, init_questions, init_given, init_producer_id_outcome}
+use Rattle.txn_handlers.specs.InitProducerId.{init_question, init_questions, init_given}
 use Rattle.api_dispatch.specs.Step.{world_after_events}
 use Rattle.api_laws.specs.Tenants.{SameBase, SameGranted}
 use Rattle.api_laws.specs.DataTenants.{SameAnswer}
@@ -47,7 +47,13 @@ pub record GivesFresh (w : World) (o : HandlerResult) : Type 0 where
   pub others : (id : ℤ) → (id ≡ producer → ⊥)
       → owner o.world.coordinator id ≡ owner w.coordinator id
 
-pub record InitsOnce : Type 0 where
+-- what an InitProducerId comes to
+abbrev pub InitRule : Type 0
+InitRule = World → Caller → InitProducerIdRequest → HandlerResult
+
+-- an InitProducerId without a transactional id that is allowed gives out a producer id that was
+-- never given out before, and one that is refused changes nothing
+pub record InitsOnce (init_producer_id_outcome : InitRule) : Type 0 where
   -- without a transactional id, where it is allowed
   pub fresh : (w : World) (caller : Caller) (r : InitProducerIdRequest) → r.transactional_id ≡ None
       → part_refusal (rules_of w) (init_questions (rules_of w) caller None) ≡ None
@@ -72,7 +78,7 @@ pub record InitsOnce : Type 0 where
 -- Worlds of one book that gave out the same producer ids, and that agree on the transactional id
 -- where writing with it is granted, give the same answer, whatever their topics hold; and no topic
 -- is touched.
-pub record InitDependsOnGrants : Type 0 where
+pub record InitDependsOnGrants (init_producer_id_outcome : InitRule) : Type 0 where
   pub same : (v w : World) (caller : Caller) (r : InitProducerIdRequest) → SameBase v w
       → SameGranted v w (init_questions (rules_of w) caller r.transactional_id)
       → SameAnswer (init_producer_id_outcome v caller r) (init_producer_id_outcome w caller r)

@@ -10,10 +10,11 @@ use Rattle.acl_binding.specs.declared.question.Verdict.TheVariants.{Yes}
 use Rattle.acl_binding.specs.Verdict.{question_of}
 use Rattle.authorizer.specs.Policy.{verdict}
 use Rattle.msg_data.specs.declared.metadata.MetadataRequest.{MetadataRequest}
+use Rattle.msg_data.specs.declared.metadata.MetadataReply.{MetadataReply}
 use Rattle.txn_coordinator.specs.Coordinator.{id_record}
 use Rattle.group_offsets.specs.Groups.{find_group}
 use Rattle.broker_world.specs.World.{World, rules_of, find_topic, topic_names}
-use Rattle.data_handlers.specs.Metadata.{describable, metadata_answer, metadata_refusals}
+use Rattle.data_handlers.specs.Metadata.{describable, metadata_refusals}
 
 -- the same settings but for topics, book, moment and number of events, and as many producer ids
 -- given out, each of them free in both or owned in both, by whatever id
@@ -61,9 +62,13 @@ abbrev pub SameForMetadata : World → World → Caller → Option (List (List �
 SameForMetadata v w caller (Some names) = SameGranted v w (topic_questions caller names)
 SameForMetadata v w caller None = SameListed v w caller
 
+-- what a Metadata request is told
+abbrev pub MetadataRule : Type 0
+MetadataRule = World → Caller → MetadataRequest → MetadataReply
+
 -- such worlds give the same answer and the same refusals
-abbrev pub DependsOnGrants : Type 0
-DependsOnGrants =
+abbrev pub DependsOnGrants : MetadataRule → Type 0
+DependsOnGrants metadata_answer =
     (v w : World) (caller : Caller) (m : MetadataRequest) → SameBase v w
     → SameForMetadata v w caller m.topics
     → (metadata_answer v caller m ≡ metadata_answer w caller m)

@@ -12,13 +12,13 @@ use Rattle.txn_coordinator.specs.Coordinator.{id_record, apply_transition, trans
 use Rattle.broker_world.specs.World.{World, rules_of}
 use Rattle.broker_world.specs.HandlerResult.{HandlerResult}
 use Rattle.broker_world.specs.Logs.{log_at}
-use Rattle.txn_handlers.specs.InitProducerId.{init_producer_id_outcome}
 use Rattle.broker_world.specs.Questions.{id_question}
-use Rattle.txn_handlers.specs.EndTxn.{end_txn_outcome, end_questions, ending_id}
-use Rattle.txn_handlers.specs.AddPartitions.{add_questions, cut_rule, code_rule, add_transition, add_reply, add_partitions_outcome}
+use Rattle.txn_handlers.specs.EndTxn.{end_questions, ending_id}
+use Rattle.txn_handlers.specs.AddPartitions.{add_questions, cut_rule, code_rule, add_transition, add_reply}
 use Rattle.api_laws.specs.Tenants.{SameBase, SameGranted}
 use Rattle.api_laws.specs.DataTenants.{SameForParts, SameAnswer}
 use Rattle.api_laws.specs.AclLaws.{IsRefusedWhole}
+use Rattle.api_laws.specs.ProducerLaws.{InitRule}
 
 -- ---- all partitions are added, or none
 
@@ -48,8 +48,15 @@ pub record IsWhole (w : World) (r : AddPartitionsToTxnRequest) (o : HandlerResul
       r.topics)
   pub refusals : o.refusals ≡ []
 
+-- what an AddPartitionsToTxn and an EndTxn come to
+abbrev pub AddRule : Type 0
+AddRule = World → Caller → AddPartitionsToTxnRequest → HandlerResult
+
+abbrev pub EndRule : Type 0
+EndRule = World → Caller → EndTxnRequest → HandlerResult
+
 -- where each partition may be added it is whole, and where one may not be, it is cut
-pub record AddsAllOrNone : Type 0 where
+pub record AddsAllOrNone (add_partitions_outcome : AddRule) : Type 0 where
   pub all : (w : World) (caller : Caller) (r : AddPartitionsToTxnRequest)
       → AllTopics (IsAddable w caller r.transactional_id) r.topics
       → IsWhole w r (add_partitions_outcome w caller r)
@@ -61,7 +68,8 @@ pub record AddsAllOrNone : Type 0 where
 
 -- Worlds that agree on what is granted of a request, and on the producer ids given out, give the
 -- same answer.
-pub record TransactionsDependOnGrants : Type 0 where
+pub record TransactionsDependOnGrants (end_txn_outcome : EndRule)
+    (add_partitions_outcome : AddRule) : Type 0 where
   pub ends : (v w : World) (caller : Caller) (r : EndTxnRequest) → SameBase v w
       → SameGranted v w (end_questions caller r)
       → SameAnswer (end_txn_outcome v caller r) (end_txn_outcome w caller r)
@@ -78,7 +86,9 @@ pub record KeepsOtherIds (w : World) (id : List ℕ) (o : HandlerResult) : Type 
       ≡ id_record w.coordinator.transactions other
   pub topics : o.world.topics ≡ w.topics
 
-pub record TransactionsKeepTheRest : Type 0 where
+-- a request for one transactional id leaves each other one as it was
+pub record TransactionsKeepTheRest (init_producer_id_outcome : InitRule)
+    (add_partitions_outcome : AddRule) (end_txn_outcome : EndRule) : Type 0 where
   pub inits : (w : World) (caller : Caller) (r : InitProducerIdRequest) (id : List ℕ)
       → r.transactional_id ≡ Some id → KeepsOtherIds w id (init_producer_id_outcome w caller r)
   pub adds : (w : World) (caller : Caller) (r : AddPartitionsToTxnRequest)

@@ -5,7 +5,7 @@ use Rattle.acl_binding.specs.declared.words.Operation.TheVariants as operations
 use Rattle.acl_binding.specs.Verdict.{question_of}
 use Rattle.acl_binding.specs.declared.question.Caller.{Caller}
 use Rattle.acl_binding.specs.Book.{empty_book}
-use Rattle.std.specs.Prelude.{◌+◌, ◌-◌, ◌-ℤ◌, List, Result, Ok, Err, pos, [], length, take, Some, None, negsuc, ◌+ℤ◌, Bool, ◌∷◌, map, drop, if◌then◌else◌, codes as codes_of}
+use Rattle.std.specs.Prelude.{◌+◌, ◌-◌, ◌-ℤ◌, List, Result, Ok, Err, pos, [], length, take, Some, None, negsuc, ◌+ℤ◌, Bool, ◌∷◌, ◌++◌, map, is_some, is_none, ℕ, ℤ, drop, if◌then◌else◌, codes as codes_of}
 use Rattle.std.proofs.Common.{zero-le}
 use Rattle.acl_binding.specs.declared.words.Kind.{Kind}
 use Rattle.acl_binding.specs.declared.words.Kind.TheVariants as kinds
@@ -27,19 +27,48 @@ use Rattle.audit_trail.specs.declared.event.Event.TheVariants.{Ask, Mark, Tick}
 use Rattle.walk.specs.Codes.{permission_code}
 use Rattle.walk.specs.Walk.{answers, refusals}
 use Rattle.partition_log.specs.Fetch.{served_of}
-use Rattle.broker_world.specs.World.{rules_of, topic_names, World}
+use Rattle.broker_world.specs.World.{rules_of, topic_names, find_topic, World}
 use Rattle.data_handlers.specs.Fetch.{fetch_rule, whole_budget, fetch_outcome, served_at}
-use Rattle.data_handlers.specs.Metadata.{metadata_topics, plain_topics, allowed_topics, topic_refusals}
-use Rattle.data_handlers.specs.ListOffsets.{listed_offset}
+use Rattle.data_handlers.specs.Metadata.{metadata_topics, plain_topics, allowed_topics, topic_refusals, metadata_answer}
+use Rattle.data_handlers.specs.ListOffsets.{listed_offset, list_offsets_outcome}
 use Rattle.broker_world.specs.HandlerResult.{HandlerResult}
+use Rattle.std.specs.List.{filter}
+use Rattle.std.specs.Str.{bytes_eq}
+use Rattle.authorizer.specs.Asking.{part_refusal}
+use Rattle.msg_acl.specs.declared.entries.BindingEntry.{BindingEntry}
+use Rattle.msg_acl.specs.declared.describe_acls.DescribedResource.{DescribedResource}
+use Rattle.msg_txn.specs.declared.add_partitions.AddPartitionsToTxnRequest.{AddPartitionsToTxnRequest}
+use Rattle.msg_txn.specs.declared.add_partitions.AddedPartition.{AddedPartition}
+use Rattle.msg_data.specs.declared.fetch.FetchPartition.{FetchPartition}
+use Rattle.msg_data.specs.declared.produce.ProducedRecords.{ProducedRecords}
+use Rattle.txn_coordinator.specs.Coordinator.{has_id}
+use Rattle.group_offsets.specs.declared.group.Group.{Group}
+use Rattle.group_offsets.specs.Groups.{group_of, groups_with}
+use Rattle.broker_world.specs.Logs.{log_at}
+use Rattle.data_handlers.specs.Produce.{produce_outcome}
+use Rattle.group_handlers.specs.Members.{join_group_outcome}
+use Rattle.group_handlers.specs.OffsetFetch.{offset_fetch_outcome}
+use Rattle.txn_handlers.specs.InitProducerId.{init_producer_id_outcome}
+use Rattle.txn_handlers.specs.AddPartitions.{add_questions, add_partitions_outcome}
+use Rattle.txn_handlers.specs.EndTxn.{ending_id, end_txn_outcome}
+use Rattle.txn_handlers.specs.AddOffsets.{add_offsets_outcome}
+use Rattle.txn_handlers.specs.TxnOffsetCommit.{txn_offset_commit_outcome}
+use Rattle.acl_handlers.specs.DescribeAcls.{describe_acls_outcome}
 use Rattle.acl_handlers.specs.CreateAcls.{create_acls_outcome}
 use Rattle.acl_handlers.specs.DeleteAcls.{delete_acls_outcome}
-use Rattle.api_dispatch.specs.Step.{reply_to, refusals_of}
+use Rattle.api_dispatch.specs.Step.{outcome, reply_to, refusals_of}
 use Rattle.api_laws.specs.Headline.{TopicsRule, TopicRefusalsRule, is_yes}
 use Rattle.api_laws.specs.DataLaws.{ListRule, ServedRule}
 use Rattle.api_laws.specs.RefusedRows.{RefusalsRule}
 use Rattle.api_laws.specs.AskedTable.{AnswerRule}
-use Rattle.api_laws.specs.AclLaws.{CreateRule, DeleteRule}
+use Rattle.api_laws.specs.AclLaws.{CreateRule, DeleteRule, DescribeAclsRule}
+use Rattle.api_laws.specs.ProducerLaws.{InitRule}
+use Rattle.api_laws.specs.TxnLaws.{AddRule, EndRule}
+use Rattle.api_laws.specs.KeptOut.{StepRule}
+use Rattle.api_laws.specs.Tenants.{MetadataRule}
+use Rattle.api_laws.specs.DataTenants.{ProduceRule, ListOffsetsRule}
+use Rattle.api_laws.specs.GroupLaws.{OffsetFetchRule, JoinRule}
+use Rattle.api_laws.specs.StagingLaws.{AddOffsetsRule, StageRule}
 use Rattle.api_laws.specs.Framing.{ResponseRule}
 use Rattle.api_laws.specs.Numbers.{CodeRule}
 use Rattle.api_laws.specs.Longest.{ServeRule}
@@ -328,6 +357,244 @@ creating_unasked w caller r =
 abbrev pub deleting_unasked : DeleteRule
 deleting_unasked w caller r =
     with_supers_of w (delete_acls_outcome (as_super w caller) caller r)
+
+-- a CreateAcls creates the topics that it names
+abbrev pub creating_topics : CreateRule
+creating_topics w caller r =
+    let right = create_acls_outcome w caller r in
+    record right {
+      world = record right.world {
+        topics = right.world.topics
+            ++ map
+            (λ (e : BindingEntry). record { name = e.name; partitions = [] ∷ [] })
+            r.creations;
+      };
+    }
+
+-- a CreateAcls is told only about topics that are there
+abbrev pub creating_for_topics_there : CreateRule
+creating_for_topics_there w caller r =
+    create_acls_outcome w caller
+    (record r {
+      creations = filter
+          (λ (e : BindingEntry). is_some (find_topic w.topics e.name))
+          r.creations;
+    })
+
+abbrev pub tell_resources_there : World → Reply → Reply
+tell_resources_there w (replies.DescribeAcls reply) =
+    replies.DescribeAcls
+    (record reply {
+      resources = filter
+          (λ (d : DescribedResource). is_some (find_topic w.topics d.name))
+          reply.resources;
+    })
+tell_resources_there w reply = reply
+
+-- a DescribeAcls tells only about topics that are there
+abbrev pub describing_topics_there : DescribeAclsRule
+describing_topics_there w caller r =
+    let right = describe_acls_outcome w caller r in
+    record right { reply = tell_resources_there w right.reply }
+
+-- ---- InitProducerId
+
+-- a producer id that was given out may be given out again
+abbrev pub initing_again : InitRule
+initing_again w caller r = record (init_producer_id_outcome w caller r) { world = w }
+
+-- an InitProducerId asks nothing
+abbrev pub initing_unasked : InitRule
+initing_unasked w caller r =
+    with_supers_of w (init_producer_id_outcome (as_super w caller) caller r)
+
+-- ---- AddPartitionsToTxn and EndTxn
+
+abbrev pub is_there : World → List ℕ → ℤ → Bool
+is_there w name index = is_some (log_at w.topics name index)
+
+-- the partitions that are there are added, whatever becomes of the others
+abbrev pub adding_what_is_there : AddRule
+adding_what_is_there w caller r =
+    record (add_partitions_outcome w caller r) {
+      world = (add_partitions_outcome w caller
+          (record r {
+            topics = map
+                (λ (t : Topic ℤ).
+                record t { partitions = filter (is_there w t.name) t.partitions })
+                r.topics;
+          })).world;
+    }
+
+-- nothing is added to the transaction, whatever is told
+abbrev pub adding_nothing : AddRule
+adding_nothing w caller r = record (add_partitions_outcome w caller r) { world = w }
+
+-- an AddPartitionsToTxn asks nothing
+abbrev pub adding_unasked : AddRule
+adding_unasked w caller r =
+    with_supers_of w (add_partitions_outcome (as_super w caller) caller r)
+
+-- an EndTxn asks nothing
+abbrev pub ending_unasked : EndRule
+ending_unasked w caller r = with_supers_of w (end_txn_outcome (as_super w caller) caller r)
+
+abbrev pub with_transaction_alone : List ℕ → World → World
+with_transaction_alone id w =
+    record w {
+      coordinator = record w.coordinator {
+        transactions = filter (has_id id) w.coordinator.transactions;
+      };
+    }
+
+-- after an EndTxn no other transactional id has a record any more
+abbrev pub ending_keeping_one : EndRule
+ending_keeping_one w caller r =
+    let right = end_txn_outcome w caller r in
+    record right { world = with_transaction_alone (ending_id r) right.world }
+
+abbrev pub is_addable : World → Caller → List ℕ → Topic ℤ → Bool
+is_addable w caller id t = is_none (part_refusal (rules_of w) (add_questions caller id t.name))
+
+abbrev pub addable_alone : World → Caller → AddPartitionsToTxnRequest → AddPartitionsToTxnRequest
+addable_alone w caller r =
+    record r { topics = filter (is_addable w caller r.transactional_id) r.topics }
+
+-- where a partition of an AddPartitionsToTxn is refused, the others are added
+abbrev pub step_adding_the_others : StepRule
+step_adding_the_others w (Ask caller client (requests.AddPartitionsToTxn r)) =
+    record (outcome w (Ask caller client (requests.AddPartitionsToTxn r))) {
+      world = (outcome w
+          (Ask caller client (requests.AddPartitionsToTxn (addable_alone w caller r)))).world;
+    }
+step_adding_the_others w e = outcome w e
+
+abbrev pub missing_as_untried : ErrorCode → ErrorCode
+missing_as_untried codes.UnknownTopicOrPartition = codes.OperationNotAttempted
+missing_as_untried code = code
+
+abbrev pub tell_missing_as_untried : Reply → Reply
+tell_missing_as_untried (replies.AddPartitionsToTxn reply) =
+    replies.AddPartitionsToTxn
+    (record reply {
+      topics = map
+          (λ (t : Topic AddedPartition).
+          record t {
+            partitions = map
+                (λ (p : AddedPartition). record p { error = missing_as_untried p.error })
+                t.partitions;
+          })
+          reply.topics;
+    })
+tell_missing_as_untried reply = reply
+
+-- a partition that isn't there is told OPERATION_NOT_ATTEMPTED too
+abbrev pub step_telling_missing_as_untried : StepRule
+step_telling_missing_as_untried w e =
+    let right = outcome w e in
+    record right { reply = tell_missing_as_untried right.reply }
+
+abbrev pub beginning_group : List ℕ → World → World
+beginning_group group w = record w { groups = groups_with w.groups (group_of w.groups group) }
+
+-- a JoinGroup begins its group, even where it is told an error
+abbrev pub step_beginning_groups : StepRule
+step_beginning_groups w (Ask caller client (requests.JoinGroup r)) =
+    let right = outcome w (Ask caller client (requests.JoinGroup r)) in
+    record right { world = beginning_group r.group right.world }
+step_beginning_groups w e = outcome w e
+
+-- ---- tenants
+
+-- a Metadata request with a null list is told all topics, whoever asks
+abbrev pub metadata_of_everybody : MetadataRule
+metadata_of_everybody w caller m =
+    record (metadata_answer w caller m) { topics = topics_for_everybody w caller m.topics }
+
+abbrev pub told_if_there : World → TopicInfo → TopicInfo
+told_if_there w t =
+    if is_some (find_topic w.topics t.name) then t
+    else record t { error = codes.UnknownTopicOrPartition }
+
+-- a topic that isn't there is told so, even to those who may not describe it
+abbrev pub metadata_telling_missing : MetadataRule
+metadata_telling_missing w caller m =
+    let right = metadata_answer w caller m in
+    record right { topics = map (told_if_there w) right.topics }
+
+-- a Fetch asks nothing
+abbrev pub fetching_unasked : FetchRule
+fetching_unasked w caller r = with_supers_of w (fetch_outcome (as_super w caller) caller r)
+
+abbrev pub is_topic_there : World → List ℕ → Bool
+is_topic_there w name = is_some (find_topic w.topics name)
+
+-- a topic that isn't there is left out of a Fetch before anybody is asked
+abbrev pub fetching_telling_missing : FetchRule
+fetching_telling_missing w caller r =
+    fetch_outcome w caller
+    (record r {
+      topics = filter (λ (t : Topic FetchPartition). is_topic_there w t.name) r.topics;
+    })
+
+-- a ListOffsets asks nothing
+abbrev pub listing_unasked : ListOffsetsRule
+listing_unasked w caller r =
+    with_supers_of w (list_offsets_outcome (as_super w caller) caller r)
+
+-- a Produce asks nothing
+abbrev pub producing_unasked : ProduceRule
+producing_unasked w caller r = with_supers_of w (produce_outcome (as_super w caller) caller r)
+
+-- whatever the partition, the batch is appended to the topic's first
+abbrev pub producing_to_the_first : ProduceRule
+producing_to_the_first w caller r =
+    produce_outcome w caller
+    (record r {
+      topics = map
+          (λ (t : Topic ProducedRecords).
+          record t {
+            partitions = map
+                (λ (p : ProducedRecords). record p { index = pos 0 })
+                t.partitions;
+          })
+          r.topics;
+    })
+
+-- an OffsetFetch asks nothing
+abbrev pub fetching_offsets_unasked : OffsetFetchRule
+fetching_offsets_unasked w caller r =
+    with_supers_of w (offset_fetch_outcome (as_super w caller) caller r)
+
+-- a JoinGroup asks nothing
+abbrev pub joining_unasked : JoinRule
+joining_unasked w caller r = with_supers_of w (join_group_outcome (as_super w caller) caller r)
+
+abbrev pub with_group_alone : List ℕ → World → World
+with_group_alone name w =
+    record w { groups = filter (λ (g : Group). bytes_eq g.name name) w.groups }
+
+-- after a JoinGroup there is no other group any more
+abbrev pub joining_alone : JoinRule
+joining_alone w caller r =
+    let right = join_group_outcome w caller r in
+    record right { world = with_group_alone r.group right.world }
+
+-- an AddOffsetsToTxn asks nothing
+abbrev pub adding_groups_unasked : AddOffsetsRule
+adding_groups_unasked w caller r =
+    with_supers_of w (add_offsets_outcome (as_super w caller) caller r)
+
+-- a TxnOffsetCommit asks nothing
+abbrev pub staging_unasked : StageRule
+staging_unasked w caller r =
+    with_supers_of w (txn_offset_commit_outcome (as_super w caller) caller r)
+
+-- after a TxnOffsetCommit there is no other group any more
+abbrev pub staging_alone : StageRule
+staging_alone w caller r =
+    let right = txn_offset_commit_outcome w caller r in
+    record right { world = with_group_alone r.group right.world }
 
 -- ---- responses
 

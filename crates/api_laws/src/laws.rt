@@ -2,13 +2,22 @@
 
 ghost use Rattle.acl_handlers.specs.CreateAcls.{create_acls_outcome};
 ghost use Rattle.acl_handlers.specs.DeleteAcls.{delete_acls_outcome};
-ghost use Rattle.api_dispatch.specs.Step.{refusals_of, reply_to};
+ghost use Rattle.api_dispatch.specs.Step.{outcome, refusals_of, reply_to};
 ghost use Rattle.msg_admin.specs.Response.{response};
 ghost use Rattle.data_handlers.specs.Fetch.{fetch_outcome, served_at};
-ghost use Rattle.data_handlers.specs.Metadata.{metadata_topics, topic_refusals};
+ghost use Rattle.data_handlers.specs.Metadata.{metadata_answer, metadata_topics, topic_refusals};
 ghost use Rattle.partition_log.specs.Fetch.{served_of};
 ghost use Rattle.walk.specs.Codes.{refusal_code};
-ghost use Rattle.data_handlers.specs.ListOffsets.{listed_offset};
+ghost use Rattle.data_handlers.specs.ListOffsets.{list_offsets_outcome, listed_offset};
+ghost use Rattle.txn_handlers.specs.InitProducerId.{init_producer_id_outcome};
+ghost use Rattle.txn_handlers.specs.AddPartitions.{add_partitions_outcome};
+ghost use Rattle.txn_handlers.specs.EndTxn.{end_txn_outcome};
+ghost use Rattle.data_handlers.specs.Produce.{produce_outcome};
+ghost use Rattle.group_handlers.specs.Members.{join_group_outcome};
+ghost use Rattle.group_handlers.specs.OffsetFetch.{offset_fetch_outcome};
+ghost use Rattle.txn_handlers.specs.AddOffsets.{add_offsets_outcome};
+ghost use Rattle.txn_handlers.specs.TxnOffsetCommit.{txn_offset_commit_outcome};
+ghost use Rattle.acl_handlers.specs.DescribeAcls.{describe_acls_outcome};
 ghost use Rattle.api_laws.specs.Runs.{WholeRuns};
 ghost use Rattle.api_laws.specs.Headline.{AnswersEachTopic, RefusesEachTopic, NullTellsDescribable};
 ghost use Rattle.api_laws.specs.Framing.{ResponsesAreFramed};
@@ -36,7 +45,7 @@ ghost use Rattle.api_laws.specs.KeptOut.{RefusedKeepsOut};
 ghost use Rattle.api_laws.specs.Unchanged.{ErrorsChangeNothing};
 ghost use Rattle.api_laws.specs.BareAnswers.{RefusalsTellNothing};
 ghost use Rattle.api_laws.specs.ErrorCases.{ErrorsAreAnswered};
-ghost use Rattle.api_laws.specs.Wrong.{code_of_ids_as_groups, code_of_topics, creating_alone, creating_nothing, creating_unasked, deleting_everything, deleting_nothing, deleting_unasked, fetch_keeping_the_budget, fetch_without_max_bytes, first_refusal_of, first_refused_topic, listing_the_end, listing_the_last, refusals_of_no_topic, refusals_without_bindings, reply_ids_as_groups, reply_to_alterers, reply_to_anybody, reply_unfenced, reply_with_acls, reply_with_ends, reply_without_brokers, reply_without_leaders, response_under_another_id, response_without_size, serving_from_the_start, serving_one_less, serving_stable_as_high, serving_to_the_end, serving_too_much, topics_for_everybody, topics_for_nobody, topics_left_out, topics_unasked};
+ghost use Rattle.api_laws.specs.Wrong.{adding_groups_unasked, adding_nothing, adding_unasked, adding_what_is_there, code_of_ids_as_groups, code_of_topics, creating_alone, creating_for_topics_there, creating_nothing, creating_topics, creating_unasked, deleting_everything, deleting_nothing, deleting_unasked, describing_topics_there, ending_keeping_one, ending_unasked, fetch_keeping_the_budget, fetch_without_max_bytes, fetching_offsets_unasked, fetching_telling_missing, fetching_unasked, first_refusal_of, first_refused_topic, initing_again, initing_unasked, joining_alone, joining_unasked, listing_the_end, listing_the_last, listing_unasked, metadata_of_everybody, metadata_telling_missing, producing_to_the_first, producing_unasked, refusals_of_no_topic, refusals_without_bindings, reply_ids_as_groups, reply_to_alterers, reply_to_anybody, reply_unfenced, reply_with_acls, reply_with_ends, reply_without_brokers, reply_without_leaders, response_under_another_id, response_without_size, serving_from_the_start, serving_one_less, serving_stable_as_high, serving_to_the_end, serving_too_much, staging_alone, staging_unasked, step_adding_the_others, step_beginning_groups, step_telling_missing_as_untried, topics_for_everybody, topics_for_nobody, topics_left_out, topics_unasked};
 
 /// A list of events that a core takes without a stop gives a receipt for each event, in order, and leaves the core in the state
 /// to which these events lead.
@@ -109,7 +118,9 @@ pub fn one_node_is_all()
 
 /// What a Metadata request is answered depends only on what it is allowed to see: worlds that agree on that answer it the same.
 pub fn metadata_depends_on_grants()
-    ensures { DependsOnGrants }
+    ensures granted { DependsOnGrants metadata_answer }
+    ensures described { ¬ DependsOnGrants metadata_of_everybody }
+    ensures existing { ¬ DependsOnGrants metadata_telling_missing }
 {}
 
 /// A partition of a Produce that is allowed is answered no error exactly where its batch stands in the log, appended now or
@@ -145,29 +156,35 @@ pub fn lists_ends()
 
 /// A Produce leaves each topic to which it may not write as it was.
 pub fn produce_keeps_the_rest()
-    ensures { ProduceKeepsTheRest }
+    ensures kept { ProduceKeepsTheRest produce_outcome }
+    ensures asked { ¬ ProduceKeepsTheRest producing_unasked }
 {}
 
 /// A Produce leaves each partition as it was for which it has no part that is allowed.
 pub fn produce_keeps_other_partitions()
-    ensures { ProduceKeepsOtherPartitions }
+    ensures kept { ProduceKeepsOtherPartitions produce_outcome }
+    ensures its_own { ¬ ProduceKeepsOtherPartitions producing_to_the_first }
 {}
 
 /// What a Produce is answered depends only on the topics and the transactional id that it is allowed to write: worlds that agree
 /// on these answer it the same.
 pub fn produce_depends_on_grants()
-    ensures { ProduceDependsOnGrants }
+    ensures granted { ProduceDependsOnGrants produce_outcome }
+    ensures asked { ¬ ProduceDependsOnGrants producing_unasked }
 {}
 
 /// What a Fetch is answered depends only on the topics that it is allowed to read: worlds that agree on these answer it the same.
 pub fn fetch_depends_on_grants()
-    ensures { FetchDependsOnGrants }
+    ensures granted { FetchDependsOnGrants fetch_outcome }
+    ensures asked { ¬ FetchDependsOnGrants fetching_unasked }
+    ensures existing { ¬ FetchDependsOnGrants fetching_telling_missing }
 {}
 
 /// What a ListOffsets is answered depends only on the topics that it is allowed to describe: worlds that agree on these answer it
 /// the same.
 pub fn list_offsets_depends_on_grants()
-    ensures { ListOffsetsDependsOnGrants }
+    ensures granted { ListOffsetsDependsOnGrants list_offsets_outcome }
+    ensures asked { ¬ ListOffsetsDependsOnGrants listing_unasked }
 {}
 
 /// After a CreateAcls that is allowed, each of its entries that is a valid binding is among the ACLs, whatever its other entries
@@ -201,12 +218,15 @@ pub fn refused_edit_nothing()
 /// What DescribeAcls, CreateAcls and DeleteAcls are answered, and which ACLs they leave, depends on no topic, group or
 /// transaction: two brokers with the same ACLs, super users, node, moment, number of events and producer ids agree on both.
 pub fn acls_depend_on_the_book()
-    ensures { AclsDependOnTheBook }
+    ensures by_book { AclsDependOnTheBook describe_acls_outcome create_acls_outcome }
+    ensures described { ¬ AclsDependOnTheBook describing_topics_there create_acls_outcome }
+    ensures created { ¬ AclsDependOnTheBook describe_acls_outcome creating_for_topics_there }
 {}
 
 /// A CreateAcls or DeleteAcls changes no partition's log.
 pub fn acls_keep_topics()
-    ensures { AclsKeepTopics }
+    ensures kept { AclsKeepTopics create_acls_outcome }
+    ensures created { ¬ AclsKeepTopics creating_topics }
 {}
 
 /// Whatever the events were, each log holds what a producer with an id from 0 on wrote in one epoch once, in order and without
@@ -219,53 +239,70 @@ pub fn holds_once()
 /// allowed to whoever may WRITE to some topic, and else as IDEMPOTENT_WRITE on the cluster is. One that is refused, with a
 /// transactional id or without, changes nothing.
 pub fn inits_once()
-    ensures { InitsOnce }
+    ensures given { InitsOnce init_producer_id_outcome }
+    ensures once { ¬ InitsOnce initing_again }
+    ensures asked { ¬ InitsOnce initing_unasked }
 {}
 
 /// What an InitProducerId is answered depends only on whether it is allowed and on the producer ids given out before; and it
 /// changes no log.
 pub fn init_depends_on_grants()
-    ensures { InitDependsOnGrants }
+    ensures granted { InitDependsOnGrants init_producer_id_outcome }
+    ensures asked { ¬ InitDependsOnGrants initing_unasked }
 {}
 
 /// An AddPartitionsToTxn adds all its partitions to the transaction where each may be added, and else none of them.
 pub fn adds_all_or_none()
-    ensures { AddsAllOrNone }
+    ensures together { AddsAllOrNone add_partitions_outcome }
+    ensures none { ¬ AddsAllOrNone adding_what_is_there }
+    ensures all { ¬ AddsAllOrNone adding_nothing }
 {}
 
 /// What an AddPartitionsToTxn or an EndTxn is answered depends only on what it is allowed to use and on the producer ids given
 /// out before.
 pub fn transactions_depend_on_grants()
-    ensures { TransactionsDependOnGrants }
+    ensures granted { TransactionsDependOnGrants end_txn_outcome add_partitions_outcome }
+    ensures ends { ¬ TransactionsDependOnGrants ending_unasked add_partitions_outcome }
+    ensures adds { ¬ TransactionsDependOnGrants end_txn_outcome adding_unasked }
 {}
 
 /// A request for one transactional id leaves all other ids, and every log, as they were; and where writing with the id isn't
 /// allowed, that id too.
 pub fn transactions_keep_the_rest()
-    ensures { TransactionsKeepTheRest }
+    ensures kept { TransactionsKeepTheRest init_producer_id_outcome add_partitions_outcome end_txn_outcome }
+    ensures others { ¬ TransactionsKeepTheRest init_producer_id_outcome add_partitions_outcome ending_keeping_one }
+    ensures asked { ¬ TransactionsKeepTheRest init_producer_id_outcome add_partitions_outcome ending_unasked }
 {}
 
 /// What a request about a group or its offsets is answered depends only on the group and the topics that it is allowed to use.
 pub fn groups_depend_on_grants()
-    ensures { GroupsDependOnGrants }
+    ensures granted { GroupsDependOnGrants join_group_outcome offset_fetch_outcome }
+    ensures fetches { ¬ GroupsDependOnGrants join_group_outcome fetching_offsets_unasked }
+    ensures joins { ¬ GroupsDependOnGrants joining_unasked offset_fetch_outcome }
 {}
 
 /// A request about one group leaves all other groups, every log and every transactional id as they were; and where reading the
 /// group isn't allowed, that group too.
 pub fn groups_keep_the_rest()
-    ensures { GroupsKeepTheRest }
+    ensures kept { GroupsKeepTheRest join_group_outcome }
+    ensures others { ¬ GroupsKeepTheRest joining_alone }
+    ensures asked { ¬ GroupsKeepTheRest joining_unasked }
 {}
 
 /// What an AddOffsetsToTxn or a TxnOffsetCommit is answered depends only on what it is allowed to use and on the producer ids
 /// given out before.
 pub fn staged_offsets_depend_on_grants()
-    ensures { StagingDependsOnGrants }
+    ensures granted { StagingDependsOnGrants add_offsets_outcome txn_offset_commit_outcome }
+    ensures adds { ¬ StagingDependsOnGrants adding_groups_unasked txn_offset_commit_outcome }
+    ensures stages { ¬ StagingDependsOnGrants add_offsets_outcome staging_unasked }
 {}
 
 /// An AddOffsetsToTxn changes one transactional id alone, and a TxnOffsetCommit one group alone; and where writing with the id or
 /// reading the group isn't allowed, they change nothing.
 pub fn staged_offsets_keep_the_rest()
-    ensures { StagingKeepsTheRest }
+    ensures kept { StagingKeepsTheRest add_offsets_outcome txn_offset_commit_outcome }
+    ensures others { ¬ StagingKeepsTheRest add_offsets_outcome staging_alone }
+    ensures asked { ¬ StagingKeepsTheRest adding_groups_unasked txn_offset_commit_outcome }
 {}
 
 /// Whatever the events were, each batch of records in a log passes the check of what producers send, and is no longer than the
@@ -325,14 +362,18 @@ pub fn errors_by_table()
 /// Where one partition of an AddPartitionsToTxn is refused, none is added: each of the others is told OPERATION_NOT_ATTEMPTED
 /// (55), or UNKNOWN_TOPIC_OR_PARTITION (3) where it isn't there.
 pub fn refused_keeps_out()
-    ensures { RefusedKeepsOut }
+    ensures kept_out { RefusedKeepsOut outcome }
+    ensures others { ¬ RefusedKeepsOut step_adding_the_others }
+    ensures missing { ¬ RefusedKeepsOut step_telling_missing_as_untried }
 {}
 
 /// A request that is told one error for all changes nothing; so does a Produce, an OffsetCommit or a TxnOffsetCommit of which each
 /// part is told an error, and an AddPartitionsToTxn of which one is. But an InitProducerId that is told CONCURRENT_TRANSACTIONS (51)
 /// may have aborted the open transaction of its id.
 pub fn errors_change_nothing()
-    ensures { ErrorsChangeNothing }
+    ensures unchanged { ErrorsChangeNothing outcome }
+    ensures joins { ¬ ErrorsChangeNothing step_beginning_groups }
+    ensures adds { ¬ ErrorsChangeNothing step_adding_the_others }
 {}
 
 /// A request that isn't allowed, and a part of one at its place, is told its error alone: no offset, no records, no members, no
