@@ -183,7 +183,7 @@ module _ (w : World) (caller : Caller) (r : ProduceRequest) (name : List ℕ) (p
   answer_there : slice_get own_answers.partitions (length part.parts) ≡ Some answer_to
   answer_there = answer_at rule (rules_of w) at_topic name part.parts part.rest p ∙ ap (λ (o : Option Refusal). Some (answer_by rule o at_part name p)) granted
 
-  pub is_told : IsTold w caller r (length part.before) (length part.parts) name answer_to
+  pub is_told : IsTold produce_outcome w caller r (length part.before) (length part.parts) name answer_to
   is_told = record {
     topics = answered;
     silent = λ is. silent_reply r.acks answered is;
@@ -194,7 +194,7 @@ module _ (w : World) (caller : Caller) (r : ProduceRequest) (name : List ℕ) (p
     answer_there = answer_there;
   }
 
-  is_served : (log : LogValue) (b : BatchData) → IsProper w.node.max_batch w.coordinator r.transactional_id r.acks name p b → log_at w.topics name p.index ≡ Some log → IsNextOf log b → IsServed w caller r (length part.before) (length part.parts) name p log b
+  is_served : (log : LogValue) (b : BatchData) → IsProper w.node.max_batch w.coordinator r.transactional_id r.acks name p b → log_at w.topics name p.index ≡ Some log → IsNextOf log b → IsServed produce_outcome w caller r (length part.before) (length part.parts) name p log b
   is_served log b proper there next = record {
     answer = answer_to;
     told = is_told;
@@ -202,7 +202,7 @@ module _ (w : World) (caller : Caller) (r : ProduceRequest) (name : List ℕ) (p
         (taken w.node.max_batch w.coordinator r.transactional_id r.acks at_part name p log b proper (kept_before ∙ there) next);
   }
 
-pub accepts_what_it_ought : AcceptsWhatItOught
+pub accepts_what_it_ought : AcceptsWhatItOught produce_outcome
 accepts_what_it_ought = record {
   part = λ most c id acks topics name p log b proper there next. taken (pos most) c id acks topics name p log b proper there next;
   request = λ w caller r name p log b part proper there next. is_served w caller r name p part log b proper there next;

@@ -20,6 +20,7 @@ use Rattle.partition_log.specs.Log.{end_of, at_end}
 use Rattle.broker_world.specs.World.{LogValue}
 use Rattle.broker_world.specs.First.{non_negative}
 use Rattle.broker_world.specs.Markers.{marker_batch}
+use Rattle.api_dispatch.specs.Step.{world_after_events}
 use Rattle.api_laws.specs.CheckedLogs.{IsChecked, LogsHoldCheckedBatches}
 use Rattle.api_laws.proofs.EachLog.{IsSent, Stays, each_log}
 use Rattle.api_laws.proofs.Lists.{all_push, all_parts}
@@ -106,7 +107,7 @@ all_placed most = record {
   marked = λ log m moment all. all_push (IsPlacedData most) log (at_end log (marker_batch m moment)) all (λ unmarked. absurd (let clash : Some m.outcome ≡ None = unmarked in cc));
 }
 
-pub logs_hold_checked_batches : LogsHoldCheckedBatches
+pub logs_hold_checked_batches : LogsHoldCheckedBatches world_after_events
 logs_hold_checked_batches s es name index log before after b there stands unmarked =
     let all = each_log s (λ (l : LogValue). AllByRecursion (IsPlacedData (non_negative s.max_batch)) l) (all_placed (non_negative s.max_batch)) es name index log there in
     let here = all_parts (IsPlacedData (non_negative s.max_batch)) before after b (subst (AllByRecursion (IsPlacedData (non_negative s.max_batch))) stands all) in

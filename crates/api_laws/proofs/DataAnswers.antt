@@ -328,7 +328,7 @@ module _ (topics : List TopicValue) (name : List ℕ) (p : ProducedRecords) wher
       (subst (λ (o : Option LogValue). IsAgain topics (topics_with_batch_by topics name p.index b o) offset (produce_answer_by (Ok b) p o)) (sym there)
       (again_by b log (judged_by_log log b) offset there again))
 
-pub produces_as_answered : ProducesAsAnswered
+pub produces_as_answered : ProducesAsAnswered produce_answer topics_produced
 produces_as_answered = record {
   appends = λ most c id acks topics name p none.
       at_log topics name p (batch_to_append most c id acks (partition_at name p.index) p.records) (log_at topics name p.index) refl

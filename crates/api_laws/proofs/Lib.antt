@@ -43,3 +43,4 @@ pub mod Wrong
 pub mod WrongReads
 pub mod WrongTransactions
 pub mod WrongTenants
+pub mod WrongWrites

@@ -7,6 +7,7 @@ use Rattle.broker_world.specs.World.{LogValue}
 use Rattle.broker_world.specs.First.{non_negative}
 use Rattle.broker_world.specs.Markers.{marker_batch}
 use Rattle.broker_world.proofs.OffsetsLeft.{next_at_end}
+use Rattle.api_dispatch.specs.Step.{world_after_events}
 use Rattle.api_laws.specs.CheckedLogs.{OffsetsCountRecords}
 use Rattle.api_laws.proofs.EachLog.{Stays, each_log}
 
@@ -53,7 +54,7 @@ numbered most = record {
   marked = λ log m moment is. one_more log (marker_batch m moment) refl is;
 }
 
-pub offsets_count_records : OffsetsCountRecords
+pub offsets_count_records : OffsetsCountRecords world_after_events
 offsets_count_records s es name index log before after b there stands =
     let is = each_log s IsNumbered (numbered (non_negative s.max_batch)) es name index log there in
     numbered_at 0 before after b (subst (AreNumbered 0) stands is.each) ∙ ap (λ (m : ℕ). pos m) (zero-add (records_in before))

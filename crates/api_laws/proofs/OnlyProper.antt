@@ -289,6 +289,6 @@ module _ (most : ℕ) (c : CoordinatorValue) (id : Option (List ℕ)) (acks : �
   by_result (Err code) None is none answer = absurd (let clash : codes.UnknownTopicOrPartition ≡ codes.None = none in cc)
   by_result (Err code) (Some log) is none answer = absurd (judged_called most c id acks (partition_at name p.index) p.records (same_code code codes.None (batch_to_append most c id acks (partition_at name p.index) p.records) is none))
 
-pub accepts_nothing_else : AcceptsNothingElse
+pub accepts_nothing_else : AcceptsNothingElse batch_to_append
 accepts_nothing_else most c id acks topics name p none =
     by_result most c id acks topics name p (batch_to_append most c id acks (partition_at name p.index) p.records) (log_at topics name p.index) refl none (produces_as_answered.appends most c id acks topics name p none)

@@ -361,7 +361,7 @@ out_of_order j is = record { code = codes.OutOfOrderSequenceNumber; refused = is
 
 -- ---- the law
 
-pub last_five_repeat : LastFiveRepeat
+pub last_five_repeat : LastFiveRepeat judged_by_log
 last_five_repeat = record {
   repeats = λ s es name index log before after b again is same few small.
       let h = same_judged log b again same ∙ repeats_here (non_negative s.max_batch) log before after b (held_in s es name index log is.there) is.place is.no_marker is.producer is.latest few small in

@@ -193,6 +193,6 @@ unfolding AllLogs
 none_of [] = tt
 none_of (t ∷ ts) = (none_in (non_negative t.partitions), none_of ts)
 
-pub holds_once : HoldsOnce
+pub holds_once : HoldsOnce world_after_events
 holds_once s es name index log id epoch there low =
     accepted_once log (log_accepted (world_after_events (first_world s) es).topics name index log (reached_all (first_world s) es (none_of s.topics)) there) id epoch low

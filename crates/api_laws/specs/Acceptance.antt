@@ -1,6 +1,6 @@
 -- What a Produce has to take in, in words of its own (Kafka protocol guide, "Produce API (Key: 0)";
 -- KIP-98).
-use Rattle.std.specs.Prelude.{◌≡◌, ◌≤◌, ◌≤ℤ◌, ◌+ℤ◌, ◌-ℤ◌, ◌⊎◌, ◌&&◌, ◌/◌, ◌%◌, ℕ, ℤ, pos, negsuc, is_none, List, [], ◌∷◌, ◌++◌, length, drop, slice_range, slice_get, Option, Some, None}
+use Rattle.std.specs.Prelude.{◌≡◌, ◌≤◌, ◌≤ℤ◌, ◌+ℤ◌, ◌-ℤ◌, ◌⊎◌, ◌&&◌, ◌/◌, ◌%◌, ℕ, ℤ, pos, negsuc, is_none, List, [], ◌∷◌, ◌++◌, length, drop, slice_range, slice_get, Option, Some, None, Result}
 use Rattle.std.specs.Int.{w16, cast_unsigned, int_rem_euclid}
 use Rattle.std.specs.List.{AllByRecursion, filter}
 use Rattle.std.specs.Ordering.{int_eq}
@@ -10,6 +10,7 @@ use Rattle.acl_binding.specs.declared.question.Caller.{Caller}
 use Rattle.acl_binding.specs.declared.question.Verdict.TheVariants.{Yes}
 use Rattle.acl_binding.specs.Verdict.{question_of}
 use Rattle.authorizer.specs.Policy.{verdict}
+use Rattle.wire_types.specs.declared.error_code.ErrorCode.{ErrorCode}
 use Rattle.wire_types.specs.declared.error_code.ErrorCode.TheVariants as codes
 use Rattle.wire_types.specs.ErrorCode.{number_of}
 use Rattle.wire_types.specs.declared.topic.Topic.{Topic}
@@ -20,6 +21,7 @@ use Rattle.msg_data.specs.declared.produce.ProducedRecords.{ProducedRecords}
 use Rattle.msg_data.specs.declared.produce.ProducedOffset.{ProducedOffset}
 use Rattle.msg_admin.specs.declared.reply.Reply.TheVariants as replies
 use Rattle.walk.specs.Alike.{AllTopics}
+use Rattle.txn_coordinator.specs.declared.target.Target.{Target}
 use Rattle.txn_coordinator.specs.declared.target.TopicPartition.{TopicPartition}
 use Rattle.txn_coordinator.specs.declared.transaction.Transaction.{Transaction}
 use Rattle.txn_coordinator.specs.declared.transaction.TransactionState.TheVariants.{Ongoing}
@@ -27,7 +29,8 @@ use Rattle.txn_coordinator.specs.Coordinator.{CoordinatorValue}
 use Rattle.broker_world.specs.World.{World, TopicValue, LogValue}
 use Rattle.broker_world.specs.Logs.{log_at}
 use Rattle.data_handlers.specs.Judged.{partition_at, batch_to_append, topics_produced}
-use Rattle.data_handlers.specs.Produce.{produce_answer, produce_outcome}
+use Rattle.data_handlers.specs.Produce.{produce_answer}
+use Rattle.api_laws.specs.DataTenants.{ProduceRule}
 
 -- ---- whose batch it is
 
@@ -181,8 +184,8 @@ pub record HasPart (w : World) (caller : Caller) (r : ProduceRequest) (name : Li
 
 -- its reply has this answer at these places of the topic and of the partition; with acks 0 it isn't
 -- sent
-pub record IsTold (w : World) (caller : Caller) (r : ProduceRequest) (i j : ℕ) (name : List ℕ)
-    (answer : ProducedOffset) : Type 0 where
+pub record IsTold (produce_outcome : ProduceRule) (w : World) (caller : Caller)
+    (r : ProduceRequest) (i j : ℕ) (name : List ℕ) (answer : ProducedOffset) : Type 0 where
   pub topics : List (Topic ProducedOffset)
   pub silent : r.acks ≡ pos 0
       → (produce_outcome w caller r).reply
@@ -196,15 +199,17 @@ pub record IsTold (w : World) (caller : Caller) (r : ProduceRequest) (i j : ℕ)
   pub answer_there : slice_get topic.partitions j ≡ Some answer
 
 -- and the batch is taken in
-pub record IsServed (w : World) (caller : Caller) (r : ProduceRequest) (i j : ℕ) (name : List ℕ)
-    (p : ProducedRecords) (log : LogValue) (b : BatchData) : Type 0 where
+pub record IsServed (produce_outcome : ProduceRule) (w : World) (caller : Caller)
+    (r : ProduceRequest) (i j : ℕ) (name : List ℕ) (p : ProducedRecords) (log : LogValue)
+    (b : BatchData) : Type 0 where
   pub answer : ProducedOffset
-  pub told : IsTold w caller r i j name answer
+  pub told : IsTold produce_outcome w caller r i j name answer
   pub taken : IsTakenIn (produce_outcome w caller r).world.topics name p.index log b answer
 
 -- ---- the laws
 
-pub record AcceptsWhatItOught : Type 0 where
+-- a batch that is proper and next, of a part that is granted, is taken in
+pub record AcceptsWhatItOught (produce_outcome : ProduceRule) : Type 0 where
   -- a partition that is there takes in what is proper and next
   pub part : (most : ℕ) (c : CoordinatorValue) (id : Option (List ℕ)) (acks : ℤ)
       (topics : List TopicValue) (name : List ℕ) (p : ProducedRecords) (log : LogValue)
@@ -222,7 +227,7 @@ pub record AcceptsWhatItOught : Type 0 where
       (p : ProducedRecords) (log : LogValue) (b : BatchData) (part : HasPart w caller r name p)
       → IsProper w.node.max_batch w.coordinator r.transactional_id r.acks name p b
       → log_at w.topics name p.index ≡ Some log → IsNextOf log b
-      → IsServed w caller r (length part.before) (length part.parts) name p log b
+      → IsServed produce_outcome w caller r (length part.before) (length part.parts) name p log b
 
 -- What was sent for the partition, which is there, is proper; and it is next, or nothing is
 -- changed.
@@ -234,9 +239,14 @@ pub record IsRightlyAnswered (most : ℕ) (c : CoordinatorValue) (id : Option (L
   pub proper : IsProper (pos most) c id acks name p b
   pub next : IsNextOf log b ⊎ (after ≡ topics)
 
--- no error is answered but for that
-abbrev pub AcceptsNothingElse : Type 0
-AcceptsNothingElse =
+-- the batch that is appended of what was sent, or why none is
+abbrev pub AppendRule : Type 0
+AppendRule = ℕ → CoordinatorValue → Option (List ℕ) → ℤ → Target → Option (List ℕ)
+    → Result BatchData ErrorCode
+
+-- no error is answered but for a batch that is proper, and next or sent again
+abbrev pub AcceptsNothingElse : AppendRule → Type 0
+AcceptsNothingElse batch_to_append =
     (most : ℕ) (c : CoordinatorValue) (id : Option (List ℕ)) (acks : ℤ) (topics : List TopicValue)
     (name : List ℕ) (p : ProducedRecords)
     → (produce_answer (batch_to_append most c id acks (partition_at name p.index) p.records) topics

@@ -9,7 +9,7 @@ use Rattle.audit_trail.specs.declared.event.Event.{Event}
 use Rattle.broker_world.specs.World.{LogValue}
 use Rattle.broker_world.specs.First.{non_negative, first_world}
 use Rattle.broker_world.specs.Logs.{log_at}
-use Rattle.api_dispatch.specs.Step.{world_after_events}
+use Rattle.api_laws.specs.Runs.{RunRule}
 
 -- it has at most so many bytes; the check of what producers send finds no fault in it; and it is
 -- the batch of its bytes, as long as its offset is a number of 64 bits
@@ -20,8 +20,8 @@ pub record IsChecked (most : ℤ) (b : BatchData) : Type 0 where
 
 -- whatever the events were, each batch that stands in a log and is no marker is checked, by the
 -- settings' greatest size
-abbrev pub LogsHoldCheckedBatches : Type 0
-LogsHoldCheckedBatches =
+abbrev pub LogsHoldCheckedBatches : RunRule → Type 0
+LogsHoldCheckedBatches world_after_events =
     (s : Settings) (es : List Event) (name : List ℕ) (index : ℤ) (log before after : LogValue)
     (b : BatchData)
     → log_at (world_after_events (first_world s) es).topics name index ≡ Some log
@@ -30,8 +30,8 @@ LogsHoldCheckedBatches =
 
 -- Each record has an offset of its own, without a gap: that of a batch or marker, which counts as
 -- one, is the number of records that stand before it in the log.
-abbrev pub OffsetsCountRecords : Type 0
-OffsetsCountRecords =
+abbrev pub OffsetsCountRecords : RunRule → Type 0
+OffsetsCountRecords world_after_events =
     (s : Settings) (es : List Event) (name : List ℕ) (index : ℤ) (log before after : LogValue)
     (b : BatchData)
     → log_at (world_after_events (first_world s) es).topics name index ≡ Some log

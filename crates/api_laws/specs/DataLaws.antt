@@ -24,8 +24,7 @@ use Rattle.txn_coordinator.specs.Coordinator.{CoordinatorValue}
 use Rattle.data_handlers.specs.declared.fetch_budget.FetchBudget.{FetchBudget}
 use Rattle.broker_world.specs.World.{TopicValue, LogValue}
 use Rattle.broker_world.specs.Logs.{log_at}
-use Rattle.data_handlers.specs.Judged.{partition_at, batch_to_append, topics_produced}
-use Rattle.data_handlers.specs.Produce.{produce_answer}
+use Rattle.data_handlers.specs.Judged.{partition_at, batch_to_append}
 use Rattle.data_handlers.specs.Fetch.{budget_for, budget_after_batches, is_outside, fetched_partition, budget_after, batch_bytes}
 
 -- ---- Produce
@@ -66,10 +65,19 @@ pub record IsUnchanged (topics after : List TopicValue) (answer : ProducedOffset
   pub same : after ≡ topics
   pub offset : answer.base_offset ≡ negsuc 0
 
+-- what a partition of a Produce is answered, and the topics that its batch leaves
+abbrev pub ProducedRule : Type 0
+ProducedRule = Result BatchData ErrorCode → List TopicValue → List ℕ → ProducedRecords
+    → ProducedOffset
+
+abbrev pub TopicsAfterRule : Type 0
+TopicsAfterRule = Result BatchData ErrorCode → List TopicValue → List ℕ → ℤ → List TopicValue
+
 -- A partition is answered no error exactly where its batch was appended, now or before; and of a
 -- batch that passes the other checks the log decides: one that is next is appended, and a repeat is
 -- answered the offset at which it stands.
-pub record ProducesAsAnswered : Type 0 where
+pub record ProducesAsAnswered (produce_answer : ProducedRule) (topics_produced : TopicsAfterRule)
+    : Type 0 where
   pub appends : (most : ℕ) (c : CoordinatorValue) (id : Option (List ℕ)) (acks : ℤ)
       (topics : List TopicValue) (name : List ℕ) (p : ProducedRecords)
       → (produce_answer (batch_to_append most c id acks (partition_at name p.index) p.records)

@@ -20,7 +20,7 @@ use Rattle.broker_world.specs.First.{first_world}
 use Rattle.broker_world.specs.Logs.{log_at}
 use Rattle.broker_world.specs.HandlerResult.{HandlerResult}
 use Rattle.txn_handlers.specs.InitProducerId.{init_question, init_questions, init_given}
-use Rattle.api_dispatch.specs.Step.{world_after_events}
+use Rattle.api_laws.specs.Runs.{RunRule}
 use Rattle.api_laws.specs.Tenants.{SameBase, SameGranted}
 use Rattle.api_laws.specs.DataTenants.{SameAnswer}
 use Rattle.api_laws.specs.AclLaws.{IsRefusedWhole}
@@ -30,8 +30,8 @@ use Rattle.api_laws.specs.AclLaws.{IsRefusedWhole}
 -- Whatever the events were, each log holds what a producer wrote in an epoch once, in order and
 -- without a gap: its first batch begins at sequence number 0, and each other one where the one
 -- before it ended.
-abbrev pub HoldsOnce : Type 0
-HoldsOnce =
+abbrev pub HoldsOnce : RunRule → Type 0
+HoldsOnce world_after_events =
     (s : Settings) (es : List Event) (name : List ℕ) (index : ℤ) (log : LogValue) (id epoch : ℤ)
     → log_at (world_after_events (first_world s) es).topics name index ≡ Some log → pos 0 ≤ℤ id
     → IsInSequence (pos 0) (batches_written_by id epoch log)

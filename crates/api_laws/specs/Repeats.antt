@@ -8,7 +8,6 @@ use Rattle.settings.specs.declared.settings.Settings.{Settings}
 use Rattle.record_batch.specs.Batch.{BatchData}
 use Rattle.producer_state.specs.declared.judgment.Judgment.{Judgment}
 use Rattle.producer_state.specs.declared.judgment.Judgment.TheVariants.{Repeat, Refused}
-use Rattle.producer_state.specs.Sequences.{judgment_of as judged_by_log}
 use Rattle.producer_state.specs.Laws.{IsSentAgain, records_in}
 use Rattle.msg_data.specs.declared.produce.ProduceRequest.{ProduceRequest}
 use Rattle.msg_data.specs.declared.produce.ProducedRecords.{ProducedRecords}
@@ -71,7 +70,7 @@ pub record IsUnchangedBy (number : ℕ) (offset : ℤ) (w : World) (caller : Cal
     (r : ProduceRequest) (i j : ℕ) (name : List ℕ) (p : ProducedRecords) (log : LogValue)
     : Type 0 where
   pub answer : ProducedOffset
-  pub told : IsTold w caller r i j name answer
+  pub told : IsTold produce_outcome w caller r i j name answer
   pub same_index : answer.index ≡ p.index
   pub error : number_of answer.error ≡ pos number
   pub at : answer.base_offset ≡ offset
@@ -89,14 +88,20 @@ IsAnsweredAs number offset s es name index log b =
     → IsUnchangedBy number offset (world_after_events (first_world s) es) caller r
     (length part.before) (length part.parts) name p log
 
-pub record LastFiveRepeat : Type 0 where
+-- how a log judges the batch that is sent next
+abbrev pub JudgeRule : Type 0
+JudgeRule = LogValue → BatchData → Judgment
+
+-- each of the last five batches of a producer in its epoch is a repeat where it is sent again, and
+-- no other batch is
+pub record LastFiveRepeat (judgment_of : JudgeRule) : Type 0 where
   -- One of the last five batches of a producer's epoch that is sent again is told its old offset.
   -- (No later one has its numbers as long as there are at most 2^31 records from it on.)
   pub repeats : (s : Settings) (es : List Event) (name : List ℕ) (index : ℤ)
       (log before after : LogValue) (b again : BatchData)
       → StandsIn s es name index log before after b → IsSentAgain b again
       → batches_after b after ≤ 4 → records_from b after ≤ 2147483648
-      → (judged_by_log log again ≡ Repeat b.header.base_offset)
+      → (judgment_of log again ≡ Repeat b.header.base_offset)
       × IsAnsweredAs 0 b.header.base_offset s es name index log again
   -- The sixth last and each one before it are out of order: 45. (As long as there are fewer than
   -- 2^31 records from it on: after so many its numbers are the next ones again.)
@@ -104,17 +109,17 @@ pub record LastFiveRepeat : Type 0 where
       (log before after : LogValue) (b again : BatchData)
       → StandsIn s es name index log before after b → IsSentAgain b again
       → 5 ≤ batches_after b after → records_from b after < 2147483648
-      → IsRefusedBy 45 (judged_by_log log again)
+      → IsRefusedBy 45 (judgment_of log again)
       × IsAnsweredAs 45 (negsuc 0) s es name index log again
   -- And nothing else is a repeat. (The number of records is one of 32 bits.)
   pub alone : (s : Settings) (es : List Event) (name : List ℕ) (index : ℤ) (log : LogValue)
       (again : BatchData) (offset : ℤ)
       → log_at (world_after_events (first_world s) es).topics name index ≡ Some log
       → pos 0 <ℤ again.header.record_count → again.header.record_count ≤ℤ pos 2147483647
-      → judged_by_log log again ≡ Repeat offset → IsOneOfFive s es name index log again offset
+      → judgment_of log again ≡ Repeat offset → IsOneOfFive s es name index log again offset
   -- What leaves a gap is out of order too.
   pub gaps : (s : Settings) (es : List Event) (name : List ℕ) (index : ℤ) (log : LogValue)
       (b : BatchData)
       → log_at (world_after_events (first_world s) es).topics name index ≡ Some log
       → LeavesGap log b
-      → IsRefusedBy 45 (judged_by_log log b) × IsAnsweredAs 45 (negsuc 0) s es name index log b
+      → IsRefusedBy 45 (judgment_of log b) × IsAnsweredAs 45 (negsuc 0) s es name index log b

@@ -1,6 +1,7 @@
 -- A list of events that a core takes without a stop.
 use Rattle.std.specs.Prelude.{◌≡◌, List, [], ◌∷◌, None}
 use Rattle.audit_trail.specs.declared.event.Event.{Event}
+use Rattle.broker_world.specs.World.{World}
 use Rattle.request_handlers.specs.Receipt.{ReceiptValue}
 use Rattle.request_handlers.specs.Core.{CoreValue, core_after, receipt_of, IsRun}
 
@@ -18,3 +19,7 @@ abbrev pub WholeRuns : Type 0
 WholeRuns =
     (old new : CoreValue) (es : List Event) (rs : List ReceiptValue) → IsRun old es rs None new
     → (rs ≡ receipts_of old es) × (new ≡ core_after_all old es)
+
+-- the world to which events lead
+abbrev pub RunRule : Type 0
+RunRule = World → List Event → World

@@ -5,7 +5,7 @@ use Rattle.acl_binding.specs.declared.words.Operation.TheVariants as operations
 use Rattle.acl_binding.specs.Verdict.{question_of}
 use Rattle.acl_binding.specs.declared.question.Caller.{Caller}
 use Rattle.acl_binding.specs.Book.{empty_book}
-use Rattle.std.specs.Prelude.{◌+◌, ◌-◌, ◌-ℤ◌, List, Result, Ok, Err, pos, [], length, take, Some, None, negsuc, ◌+ℤ◌, Bool, ◌∷◌, ◌++◌, map, is_some, is_none, ℕ, ℤ, drop, if◌then◌else◌, codes as codes_of}
+use Rattle.std.specs.Prelude.{◌+◌, ◌-◌, ◌-ℤ◌, List, Result, Ok, Err, pos, [], length, take, Option, Some, None, negsuc, ◌+ℤ◌, Bool, ◌∷◌, ◌++◌, map, is_some, is_none, ℕ, ℤ, drop, if◌then◌else◌, codes as codes_of}
 use Rattle.std.proofs.Common.{zero-le}
 use Rattle.acl_binding.specs.declared.words.Kind.{Kind}
 use Rattle.acl_binding.specs.declared.words.Kind.TheVariants as kinds
@@ -27,7 +27,7 @@ use Rattle.audit_trail.specs.declared.event.Event.TheVariants.{Ask, Mark, Tick}
 use Rattle.walk.specs.Codes.{permission_code}
 use Rattle.walk.specs.Walk.{answers, refusals}
 use Rattle.partition_log.specs.Fetch.{served_of}
-use Rattle.broker_world.specs.World.{rules_of, topic_names, find_topic, World}
+use Rattle.broker_world.specs.World.{rules_of, topic_names, find_topic, World, TopicValue, LogValue}
 use Rattle.data_handlers.specs.Fetch.{fetch_rule, whole_budget, fetch_outcome, served_at}
 use Rattle.data_handlers.specs.Metadata.{metadata_topics, plain_topics, allowed_topics, topic_refusals, metadata_answer}
 use Rattle.data_handlers.specs.ListOffsets.{listed_offset, list_offsets_outcome}
@@ -44,8 +44,15 @@ use Rattle.msg_data.specs.declared.produce.ProducedRecords.{ProducedRecords}
 use Rattle.txn_coordinator.specs.Coordinator.{has_id}
 use Rattle.group_offsets.specs.declared.group.Group.{Group}
 use Rattle.group_offsets.specs.Groups.{group_of, groups_with}
-use Rattle.broker_world.specs.Logs.{log_at}
-use Rattle.data_handlers.specs.Produce.{produce_outcome}
+use Rattle.broker_world.specs.Logs.{log_at, with_log}
+use Rattle.std.specs.Ordering.{int_eq}
+use Rattle.record_batch.specs.Batch.{BatchData}
+use Rattle.producer_state.specs.declared.judgment.Judgment.{Judgment}
+use Rattle.producer_state.specs.declared.judgment.Judgment.TheVariants.{Next, Repeat, Refused}
+use Rattle.producer_state.specs.Sequences.{judgment_of}
+use Rattle.partition_log.specs.Log.{at_end}
+use Rattle.data_handlers.specs.Judged.{batch_to_append}
+use Rattle.data_handlers.specs.Produce.{produce_answer, produce_outcome}
 use Rattle.group_handlers.specs.Members.{join_group_outcome}
 use Rattle.group_handlers.specs.OffsetFetch.{offset_fetch_outcome}
 use Rattle.txn_handlers.specs.InitProducerId.{init_producer_id_outcome}
@@ -56,9 +63,12 @@ use Rattle.txn_handlers.specs.TxnOffsetCommit.{txn_offset_commit_outcome}
 use Rattle.acl_handlers.specs.DescribeAcls.{describe_acls_outcome}
 use Rattle.acl_handlers.specs.CreateAcls.{create_acls_outcome}
 use Rattle.acl_handlers.specs.DeleteAcls.{delete_acls_outcome}
-use Rattle.api_dispatch.specs.Step.{outcome, reply_to, refusals_of}
+use Rattle.api_dispatch.specs.Step.{outcome, reply_to, refusals_of, world_after_events}
 use Rattle.api_laws.specs.Headline.{TopicsRule, TopicRefusalsRule, is_yes}
-use Rattle.api_laws.specs.DataLaws.{ListRule, ServedRule}
+use Rattle.api_laws.specs.DataLaws.{ListRule, ServedRule, ProducedRule, TopicsAfterRule}
+use Rattle.api_laws.specs.Acceptance.{AppendRule}
+use Rattle.api_laws.specs.Repeats.{JudgeRule}
+use Rattle.api_laws.specs.Runs.{RunRule}
 use Rattle.api_laws.specs.RefusedRows.{RefusalsRule}
 use Rattle.api_laws.specs.AskedTable.{AnswerRule}
 use Rattle.api_laws.specs.AclLaws.{CreateRule, DeleteRule, DescribeAclsRule}
@@ -595,6 +605,92 @@ abbrev pub staging_alone : StageRule
 staging_alone w caller r =
     let right = txn_offset_commit_outcome w caller r in
     record right { world = with_group_alone r.group right.world }
+
+-- ---- what a Produce appends
+
+-- nothing is appended, whatever is answered
+abbrev pub topics_kept : TopicsAfterRule
+topics_kept batch topics name index = topics
+
+abbrev pub appended : List TopicValue → List ℕ → ℤ → BatchData → Option LogValue → List TopicValue
+appended topics name index b None = topics
+appended topics name index b (Some log) = with_log topics name index (log ++ at_end log b ∷ [])
+
+-- whatever the log says of it a batch is appended, so that one sent again stands there twice
+abbrev pub topics_with_repeats : TopicsAfterRule
+topics_with_repeats (Err code) topics name index = topics
+topics_with_repeats (Ok b) topics name index =
+    appended topics name index b (log_at topics name index)
+
+-- whatever was sent, no error is told
+abbrev pub answering_without_error : ProducedRule
+answering_without_error batch topics name p =
+    record (produce_answer batch topics name p) { error = codes.None }
+
+-- any number of acks is taken for one
+abbrev pub batch_under_any_acks : AppendRule
+batch_under_any_acks most c id acks target records =
+    batch_to_append most c id (pos 1) target records
+
+-- the settings' max_batch isn't looked at
+abbrev pub batch_of_any_size : AppendRule
+batch_of_any_size most c id acks target records =
+    batch_to_append 1000000 c id acks target records
+
+-- a batch is answered, and not appended
+abbrev pub producing_nothing : ProduceRule
+producing_nothing w caller r = record (produce_outcome w caller r) { world = w }
+
+-- acks have to be -1, for all replicas
+abbrev pub producing_for_all_replicas : ProduceRule
+producing_for_all_replicas w caller r =
+    if int_eq r.acks (negsuc 0) then produce_outcome w caller r
+    else produce_outcome w caller (record r { acks = pos 2 })
+
+abbrev pub repeat_as_next : Judgment → Judgment
+repeat_as_next (Repeat offset) = Next
+repeat_as_next judgment = judgment
+
+-- a batch that is sent again is taken for the next one
+abbrev pub judging_repeats_as_next : JudgeRule
+judging_repeats_as_next log b = repeat_as_next (judgment_of log b)
+
+abbrev pub gap_as_next : Judgment → Judgment
+gap_as_next (Refused codes.OutOfOrderSequenceNumber) = Next
+gap_as_next judgment = judgment
+
+-- a batch that leaves a gap is taken for the next one
+abbrev pub judging_gaps_as_next : JudgeRule
+judging_gaps_as_next log b = gap_as_next (judgment_of log b)
+
+-- ---- what logs hold
+
+abbrev pub with_logs : (LogValue → LogValue) → World → World
+with_logs change w =
+    record w {
+      topics = map
+          (λ (t : TopicValue). record t { partitions = map change t.partitions })
+          w.topics;
+    }
+
+-- a log keeps the headers of its batches alone
+abbrev pub world_of_headers : RunRule
+world_of_headers w es =
+    with_logs (λ log. map (λ (b : BatchData). record b { bytes = take 61 b.bytes }) log)
+    (world_after_events w es)
+
+-- a log holds each batch twice, as after a retry
+abbrev pub world_of_repeats : RunRule
+world_of_repeats w es = with_logs (λ log. log ++ log) (world_after_events w es)
+
+abbrev pub at_next_offset : BatchData → BatchData
+at_next_offset b =
+    record b { header = record b.header { base_offset = b.header.base_offset +ℤ pos 1 } }
+
+-- the first record of a log has offset 1
+abbrev pub world_from_offset_one : RunRule
+world_from_offset_one w es =
+    with_logs (λ log. map at_next_offset log) (world_after_events w es)
 
 -- ---- responses
 

@@ -2,7 +2,7 @@
 
 ghost use Rattle.acl_handlers.specs.CreateAcls.{create_acls_outcome};
 ghost use Rattle.acl_handlers.specs.DeleteAcls.{delete_acls_outcome};
-ghost use Rattle.api_dispatch.specs.Step.{outcome, refusals_of, reply_to};
+ghost use Rattle.api_dispatch.specs.Step.{outcome, refusals_of, reply_to, world_after_events};
 ghost use Rattle.msg_admin.specs.Response.{response};
 ghost use Rattle.data_handlers.specs.Fetch.{fetch_outcome, served_at};
 ghost use Rattle.data_handlers.specs.Metadata.{metadata_answer, metadata_topics, topic_refusals};
@@ -12,12 +12,14 @@ ghost use Rattle.data_handlers.specs.ListOffsets.{list_offsets_outcome, listed_o
 ghost use Rattle.txn_handlers.specs.InitProducerId.{init_producer_id_outcome};
 ghost use Rattle.txn_handlers.specs.AddPartitions.{add_partitions_outcome};
 ghost use Rattle.txn_handlers.specs.EndTxn.{end_txn_outcome};
-ghost use Rattle.data_handlers.specs.Produce.{produce_outcome};
+ghost use Rattle.data_handlers.specs.Produce.{produce_answer, produce_outcome};
 ghost use Rattle.group_handlers.specs.Members.{join_group_outcome};
 ghost use Rattle.group_handlers.specs.OffsetFetch.{offset_fetch_outcome};
 ghost use Rattle.txn_handlers.specs.AddOffsets.{add_offsets_outcome};
 ghost use Rattle.txn_handlers.specs.TxnOffsetCommit.{txn_offset_commit_outcome};
 ghost use Rattle.acl_handlers.specs.DescribeAcls.{describe_acls_outcome};
+ghost use Rattle.data_handlers.specs.Judged.{topics_produced, batch_to_append};
+ghost use Rattle.producer_state.specs.Sequences.{judgment_of};
 ghost use Rattle.api_laws.specs.Runs.{WholeRuns};
 ghost use Rattle.api_laws.specs.Headline.{AnswersEachTopic, RefusesEachTopic, NullTellsDescribable};
 ghost use Rattle.api_laws.specs.Framing.{ResponsesAreFramed};
@@ -45,7 +47,7 @@ ghost use Rattle.api_laws.specs.KeptOut.{RefusedKeepsOut};
 ghost use Rattle.api_laws.specs.Unchanged.{ErrorsChangeNothing};
 ghost use Rattle.api_laws.specs.BareAnswers.{RefusalsTellNothing};
 ghost use Rattle.api_laws.specs.ErrorCases.{ErrorsAreAnswered};
-ghost use Rattle.api_laws.specs.Wrong.{adding_groups_unasked, adding_nothing, adding_unasked, adding_what_is_there, code_of_ids_as_groups, code_of_topics, creating_alone, creating_for_topics_there, creating_nothing, creating_topics, creating_unasked, deleting_everything, deleting_nothing, deleting_unasked, describing_topics_there, ending_keeping_one, ending_unasked, fetch_keeping_the_budget, fetch_without_max_bytes, fetching_offsets_unasked, fetching_telling_missing, fetching_unasked, first_refusal_of, first_refused_topic, initing_again, initing_unasked, joining_alone, joining_unasked, listing_the_end, listing_the_last, listing_unasked, metadata_of_everybody, metadata_telling_missing, producing_to_the_first, producing_unasked, refusals_of_no_topic, refusals_without_bindings, reply_ids_as_groups, reply_to_alterers, reply_to_anybody, reply_unfenced, reply_with_acls, reply_with_ends, reply_without_brokers, reply_without_leaders, response_under_another_id, response_without_size, serving_from_the_start, serving_one_less, serving_stable_as_high, serving_to_the_end, serving_too_much, staging_alone, staging_unasked, step_adding_the_others, step_beginning_groups, step_telling_missing_as_untried, topics_for_everybody, topics_for_nobody, topics_left_out, topics_unasked};
+ghost use Rattle.api_laws.specs.Wrong.{adding_groups_unasked, adding_nothing, adding_unasked, adding_what_is_there, answering_without_error, batch_of_any_size, batch_under_any_acks, code_of_ids_as_groups, code_of_topics, creating_alone, creating_for_topics_there, creating_nothing, creating_topics, creating_unasked, deleting_everything, deleting_nothing, deleting_unasked, describing_topics_there, ending_keeping_one, ending_unasked, fetch_keeping_the_budget, fetch_without_max_bytes, fetching_offsets_unasked, fetching_telling_missing, fetching_unasked, first_refusal_of, first_refused_topic, initing_again, initing_unasked, joining_alone, joining_unasked, judging_gaps_as_next, judging_repeats_as_next, listing_the_end, listing_the_last, listing_unasked, metadata_of_everybody, metadata_telling_missing, producing_for_all_replicas, producing_nothing, producing_to_the_first, producing_unasked, refusals_of_no_topic, refusals_without_bindings, reply_ids_as_groups, reply_to_alterers, reply_to_anybody, reply_unfenced, reply_with_acls, reply_with_ends, reply_without_brokers, reply_without_leaders, response_under_another_id, response_without_size, serving_from_the_start, serving_one_less, serving_stable_as_high, serving_to_the_end, serving_too_much, staging_alone, staging_unasked, step_adding_the_others, step_beginning_groups, step_telling_missing_as_untried, topics_for_everybody, topics_for_nobody, topics_kept, topics_left_out, topics_unasked, topics_with_repeats, world_from_offset_one, world_of_headers, world_of_repeats};
 
 /// A list of events that a core takes without a stop gives a receipt for each event, in order, and leaves the core in the state
 /// to which these events lead.
@@ -127,7 +129,10 @@ pub fn metadata_depends_on_grants()
 /// before. Of a batch that passes the other checks the log decides: the producer's next one is appended, and one sent again is
 /// answered the offset that it got.
 pub fn produces_as_answered()
-    ensures { ProducesAsAnswered }
+    ensures answered { ProducesAsAnswered produce_answer topics_produced }
+    ensures appended { ¬ ProducesAsAnswered produce_answer topics_kept }
+    ensures once { ¬ ProducesAsAnswered produce_answer topics_with_repeats }
+    ensures told { ¬ ProducesAsAnswered answering_without_error topics_produced }
 {}
 
 /// An allowed partition of a Fetch is served a run of its log's batches, whose bytes are taken off the budget that is left.
@@ -232,7 +237,8 @@ pub fn acls_keep_topics()
 /// Whatever the events were, each log holds what a producer with an id from 0 on wrote in one epoch once, in order and without
 /// a gap: its first batch there begins at sequence number 0, and each next one where the one before ended, modulo 2^31.
 pub fn holds_once()
-    ensures { HoldsOnce }
+    ensures held { HoldsOnce world_after_events }
+    ensures once { ¬ HoldsOnce world_of_repeats }
 {}
 
 /// An InitProducerId without a transactional id that is allowed gives out a producer id that was never given out before. It is
@@ -308,32 +314,41 @@ pub fn staged_offsets_keep_the_rest()
 /// Whatever the events were, each batch of records in a log passes the check of what producers send, and is no longer than the
 /// settings' max_batch.
 pub fn logs_hold_checked_batches()
-    ensures { LogsHoldCheckedBatches }
+    ensures checked { LogsHoldCheckedBatches world_after_events }
+    ensures whole { ¬ LogsHoldCheckedBatches world_of_headers }
 {}
 
 /// Whatever the events were, the base offset of each batch and marker in a log is the number of records before it there.
 pub fn offsets_count_records()
-    ensures { OffsetsCountRecords }
+    ensures counted { OffsetsCountRecords world_after_events }
+    ensures once { ¬ OffsetsCountRecords world_of_repeats }
+    ensures from_zero { ¬ OffsetsCountRecords world_from_offset_one }
 {}
 
 /// A Produce that is allowed appends a batch without a fault at the log's end, as it was sent, if it is of no producer, of an
 /// idempotent producer, or of an open transaction, and the next in sequence.
 pub fn accepts_what_it_ought()
-    ensures { AcceptsWhatItOught }
+    ensures accepted { AcceptsWhatItOught produce_outcome }
+    ensures appended { ¬ AcceptsWhatItOught producing_nothing }
+    ensures each_acks { ¬ AcceptsWhatItOught producing_for_all_replicas }
 {}
 
 /// A partition of a Produce is answered no error only for a batch without a fault, no longer than the settings' max_batch and
 /// with acks -1, 0 or 1, that is of no producer, of an idempotent producer, or of the open transaction of the request's id, which
 /// took the partition in.
 pub fn accepts_nothing_else()
-    ensures { AcceptsNothingElse }
+    ensures accepted { AcceptsNothingElse batch_to_append }
+    ensures by_acks { ¬ AcceptsNothingElse batch_under_any_acks }
+    ensures by_size { ¬ AcceptsNothingElse batch_of_any_size }
 {}
 
 /// Each of the last five batches that a producer wrote in its epoch, sent again, is answered its old offset and isn't appended.
 /// An earlier one is answered OUT_OF_ORDER_SEQUENCE_NUMBER (45), as one is that leaves a gap. No other batch counts as sent
 /// again.
 pub fn last_five_repeat()
-    ensures { LastFiveRepeat }
+    ensures repeated { LastFiveRepeat judgment_of }
+    ensures once { ¬ LastFiveRepeat judging_repeats_as_next }
+    ensures gaps { ¬ LastFiveRepeat judging_gaps_as_next }
 {}
 
 /// One table says for which operations on which resources each api has to be authorized. A request, and each of its parts at its
