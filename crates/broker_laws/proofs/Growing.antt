@@ -108,7 +108,7 @@ step_goes w (Tick told) = go_kept (ComesBy w (Tick told)) w.groups (map (without
 
 -- ---- the law
 
-pub groups_go_on : (w : World) → GroupsGoOn w
+pub groups_go_on : GroupsGoOn step
 groups_go_on w e g = let h = step_goes w e g in record { more = h.more; events = h.events; ways = h.ways }
 
 -- ---- events

@@ -35,4 +35,7 @@ pub mod ToldTopics
 pub mod Transacted
 pub mod RoundTrips
 pub mod TransitionCodes
+pub mod Worked
 pub mod Wrong
+pub mod WrongLogs
+pub mod WrongMembers

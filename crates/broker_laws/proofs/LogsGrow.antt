@@ -143,7 +143,7 @@ step_grows w (Ask caller client (DeleteAcls r)) = unless_refused (part_refusal (
 step_grows w Mark = grow_by_front w (slice_get w.coordinator.warrants 0)
 step_grows w (Tick told) = grow_same w.topics
 
-pub logs_go_on : (w : World) → LogsGoOn w
+pub logs_go_on : LogsGoOn step
 logs_go_on w e = step_grows w e
 
 pub reached_grows : (w : World) (es : List Event) → Grow w.topics (world_after_events w es).topics

@@ -218,7 +218,7 @@ join_at w caller client r x answer zero =
     call_leaves w (part_refusal (rules_of w) (read_question caller r.group ∷ [])) (λ code. replies.JoinGroup (join_error code r)) (served_join w r) r.group t (JoinTold x) (λ new. Joins w g new r x) refl
     (join_keeps_name g r w.events w.moment t view) (join_error_told r x) (join_turns w r x t view) (answer, zero)
 
-join_is : (w : World) (e : Event) (g : List ℕ) (j : IsJoin w e g) → Joins w (group_in w g) (group_in (step w e) g) j.request j.reply
+join_is : (w : World) (e : Event) (g : List ℕ) (j : IsJoin reply_to w e g) → Joins w (group_in w g) (group_in (step w e) g) j.request j.reply
 join_is w e g j =
     subst (λ (x : Event). Joins w (group_in w g) (group_in (step w x) g) j.request j.reply) (sym j.event)
     (subst (λ (n : List ℕ). Joins w (group_in w n) (group_in (step w (Ask j.caller j.client (JoinGroup j.request))) n) j.request j.reply) j.group
@@ -234,7 +234,7 @@ join_noted g r place moment t (inr enters) =
     inr (join_welcome (welcome g r.member place enters.protocol), ap (λ (u : GroupTransition Joined). replies.JoinGroup (join_reply (answer_of u) r)) enters.is, none_zero)
 
 join_acts : (w : World) (caller : Caller) (client : Option (List ℕ)) (r : JoinGroupRequest) (g : List ℕ)
-    → MayChange w (Ask caller client (JoinGroup r)) g ⊎ IsAsBefore (group_in w g) (group_in (step w (Ask caller client (JoinGroup r))) g)
+    → MayChange step reply_to w (Ask caller client (JoinGroup r)) g ⊎ IsAsBefore (group_in w g) (group_in (step w (Ask caller client (JoinGroup r))) g)
 join_acts w caller client r g =
     let old = group_of w.groups r.group in
     let t = join w.groups r w.events w.moment in
@@ -242,7 +242,7 @@ join_acts w caller client r g =
     by (call_acts w (part_refusal (rules_of w) (read_question caller r.group ∷ [])) (λ code. replies.JoinGroup (join_error code r)) (served_join w r) r.group g t JoinNoted refl
     (join_keeps_name old r w.events w.moment t view) (join_noted old r w.events w.moment t view)) where
       by : (JoinNoted (reply_to w (Ask caller client (JoinGroup r))) × (r.group ≡ g)) ⊎ IsAsBefore (group_in w g) (group_in (step w (Ask caller client (JoinGroup r))) g)
-          → MayChange w (Ask caller client (JoinGroup r)) g ⊎ IsAsBefore (group_in w g) (group_in (step w (Ask caller client (JoinGroup r))) g)
+          → MayChange step reply_to w (Ask caller client (JoinGroup r)) g ⊎ IsAsBefore (group_in w g) (group_in (step w (Ask caller client (JoinGroup r))) g)
       by (inl told) = inl (inl (record { caller = caller; client = client; request = r; reply = told.0.0; event = refl; group = told.1; answer = told.0.1; no_error = told.0.2 }))
       by (inr same) = inr same
 
@@ -317,7 +317,7 @@ sync_at w caller client r x answer zero =
     call_leaves w (part_refusal (rules_of w) (read_question caller r.group ∷ [])) (λ code. replies.SyncGroup (sync_reply (Err code))) (served_sync w r) r.group t (SyncTold x) (λ new. Syncs w g new r x) refl
     (sync_keeps_name g r w.moment t view) (sync_error_told x) (sync_turns w r x t view) (answer, zero)
 
-sync_is : (w : World) (e : Event) (g : List ℕ) (s : IsSync w e g) → Syncs w (group_in w g) (group_in (step w e) g) s.request s.reply
+sync_is : (w : World) (e : Event) (g : List ℕ) (s : IsSync reply_to w e g) → Syncs w (group_in w g) (group_in (step w e) g) s.request s.reply
 sync_is w e g s =
     subst (λ (x : Event). Syncs w (group_in w g) (group_in (step w x) g) s.request s.reply) (sym s.event)
     (subst (λ (n : List ℕ). Syncs w (group_in w n) (group_in (step w (Ask s.caller s.client (SyncGroup s.request))) n) s.request s.reply) s.group
@@ -331,7 +331,7 @@ sync_noted g r moment t (inl away) = inl away
 sync_noted g r moment t (inr synced) = inr (sync_reply (Ok (assignment_of g r)), ap (λ (u : GroupTransition (List ℕ)). replies.SyncGroup (sync_reply (answer_of u))) synced.is, none_zero)
 
 sync_acts : (w : World) (caller : Caller) (client : Option (List ℕ)) (r : SyncGroupRequest) (g : List ℕ)
-    → MayChange w (Ask caller client (SyncGroup r)) g ⊎ IsAsBefore (group_in w g) (group_in (step w (Ask caller client (SyncGroup r))) g)
+    → MayChange step reply_to w (Ask caller client (SyncGroup r)) g ⊎ IsAsBefore (group_in w g) (group_in (step w (Ask caller client (SyncGroup r))) g)
 sync_acts w caller client r g =
     let old = group_of w.groups r.group in
     let t = sync w.groups r w.moment in
@@ -339,7 +339,7 @@ sync_acts w caller client r g =
     by (call_acts w (part_refusal (rules_of w) (read_question caller r.group ∷ [])) (λ code. replies.SyncGroup (sync_reply (Err code))) (served_sync w r) r.group g t SyncNoted refl
     (sync_keeps_name old r w.moment t view) (sync_noted old r w.moment t view)) where
       by : (SyncNoted (reply_to w (Ask caller client (SyncGroup r))) × (r.group ≡ g)) ⊎ IsAsBefore (group_in w g) (group_in (step w (Ask caller client (SyncGroup r))) g)
-          → MayChange w (Ask caller client (SyncGroup r)) g ⊎ IsAsBefore (group_in w g) (group_in (step w (Ask caller client (SyncGroup r))) g)
+          → MayChange step reply_to w (Ask caller client (SyncGroup r)) g ⊎ IsAsBefore (group_in w g) (group_in (step w (Ask caller client (SyncGroup r))) g)
       by (inl told) = inl (inr (inl (record { caller = caller; client = client; request = r; reply = told.0.0; event = refl; group = told.1; answer = told.0.1; no_error = told.0.2 })))
       by (inr same) = inr same
 
@@ -383,7 +383,7 @@ beat_at w caller client r x answer zero =
     call_leaves w (part_refusal (rules_of w) (read_question caller r.group ∷ [])) (λ code. replies.Heartbeat (beat_reply code)) (served_heartbeat w r) r.group t (BeatTold x) (λ new. Beats w g new r) refl
     (beat_keeps_name g r w.moment t view) (beat_error_told x) (beat_turns w r x t view) (answer, zero)
 
-beat_is : (w : World) (e : Event) (g : List ℕ) (b : IsBeat w e g) → Beats w (group_in w g) (group_in (step w e) g) b.request
+beat_is : (w : World) (e : Event) (g : List ℕ) (b : IsBeat reply_to w e g) → Beats w (group_in w g) (group_in (step w e) g) b.request
 beat_is w e g b =
     subst (λ (x : Event). Beats w (group_in w g) (group_in (step w x) g) b.request) (sym b.event)
     (subst (λ (n : List ℕ). Beats w (group_in w n) (group_in (step w (Ask b.caller b.client (Heartbeat b.request))) n) b.request) b.group
@@ -397,7 +397,7 @@ beat_noted g r moment t (inl away) = inl away
 beat_noted g r moment t (inr beaten) = inr (beat_reply errors.None, ap (λ (u : GroupTransition (Unit {0})). replies.Heartbeat (beat_reply (code_in (answer_of u)))) beaten.is, none_zero)
 
 beat_acts : (w : World) (caller : Caller) (client : Option (List ℕ)) (r : HeartbeatRequest) (g : List ℕ)
-    → MayChange w (Ask caller client (Heartbeat r)) g ⊎ IsAsBefore (group_in w g) (group_in (step w (Ask caller client (Heartbeat r))) g)
+    → MayChange step reply_to w (Ask caller client (Heartbeat r)) g ⊎ IsAsBefore (group_in w g) (group_in (step w (Ask caller client (Heartbeat r))) g)
 beat_acts w caller client r g =
     let old = group_of w.groups r.group in
     let t = beat w.groups r w.moment in
@@ -405,7 +405,7 @@ beat_acts w caller client r g =
     by (call_acts w (part_refusal (rules_of w) (read_question caller r.group ∷ [])) (λ code. replies.Heartbeat (beat_reply code)) (served_heartbeat w r) r.group g t BeatNoted refl
     (beat_keeps_name old r w.moment t view) (beat_noted old r w.moment t view)) where
       by : (BeatNoted (reply_to w (Ask caller client (Heartbeat r))) × (r.group ≡ g)) ⊎ IsAsBefore (group_in w g) (group_in (step w (Ask caller client (Heartbeat r))) g)
-          → MayChange w (Ask caller client (Heartbeat r)) g ⊎ IsAsBefore (group_in w g) (group_in (step w (Ask caller client (Heartbeat r))) g)
+          → MayChange step reply_to w (Ask caller client (Heartbeat r)) g ⊎ IsAsBefore (group_in w g) (group_in (step w (Ask caller client (Heartbeat r))) g)
       by (inl told) = inl (inr (inr (inl (record { caller = caller; client = client; request = r; reply = told.0.0; event = refl; group = told.1; answer = told.0.1; no_error = told.0.2 }))))
       by (inr same) = inr same
 
@@ -447,7 +447,7 @@ leave_at w caller client r x answer zero =
     call_leaves w (part_refusal (rules_of w) (read_question caller r.group ∷ [])) (λ code. replies.LeaveGroup (leave_reply code)) (left_by w r) r.group t (LeaveTold x) (λ new. Leaves g new r) refl
     (leave_keeps_name g r t view) (leave_error_told x) (leave_turns w r x t view) (answer, zero)
 
-leave_is : (w : World) (e : Event) (g : List ℕ) (l : IsLeave w e g) → Leaves (group_in w g) (group_in (step w e) g) l.request
+leave_is : (w : World) (e : Event) (g : List ℕ) (l : IsLeave reply_to w e g) → Leaves (group_in w g) (group_in (step w e) g) l.request
 leave_is w e g l =
     subst (λ (x : Event). Leaves (group_in w g) (group_in (step w x) g) l.request) (sym l.event)
     (subst (λ (n : List ℕ). Leaves (group_in w n) (group_in (step w (Ask l.caller l.client (LeaveGroup l.request))) n) l.request) l.group
@@ -461,7 +461,7 @@ leave_noted g r t (inl away) = inl away
 leave_noted g r t (inr gone) = inr (leave_reply errors.None, ap (λ (u : GroupTransition (Unit {0})). replies.LeaveGroup (leave_reply (code_in (answer_of u)))) gone.is, none_zero)
 
 leave_acts : (w : World) (caller : Caller) (client : Option (List ℕ)) (r : LeaveGroupRequest) (g : List ℕ)
-    → MayChange w (Ask caller client (LeaveGroup r)) g ⊎ IsAsBefore (group_in w g) (group_in (step w (Ask caller client (LeaveGroup r))) g)
+    → MayChange step reply_to w (Ask caller client (LeaveGroup r)) g ⊎ IsAsBefore (group_in w g) (group_in (step w (Ask caller client (LeaveGroup r))) g)
 leave_acts w caller client r g =
     let old = group_of w.groups r.group in
     let t = leave w.groups r in
@@ -469,7 +469,7 @@ leave_acts w caller client r g =
     by (call_acts w (part_refusal (rules_of w) (read_question caller r.group ∷ [])) (λ code. replies.LeaveGroup (leave_reply code)) (left_by w r) r.group g t LeaveNoted refl
     (leave_keeps_name old r t view) (leave_noted old r t view)) where
       by : (LeaveNoted (reply_to w (Ask caller client (LeaveGroup r))) × (r.group ≡ g)) ⊎ IsAsBefore (group_in w g) (group_in (step w (Ask caller client (LeaveGroup r))) g)
-          → MayChange w (Ask caller client (LeaveGroup r)) g ⊎ IsAsBefore (group_in w g) (group_in (step w (Ask caller client (LeaveGroup r))) g)
+          → MayChange step reply_to w (Ask caller client (LeaveGroup r)) g ⊎ IsAsBefore (group_in w g) (group_in (step w (Ask caller client (LeaveGroup r))) g)
       by (inl told) = inl (inr (inr (inr (inl (record { caller = caller; client = client; request = r; reply = told.0.0; event = refl; group = told.1; answer = told.0.1; no_error = told.0.2 })))))
       by (inr same) = inr same
 
@@ -487,19 +487,19 @@ lapsed_is moment o m has silent = ap (is_lapsed moment) has ∙ lt-ltb (m.heard 
 tick_group : (w : World) (told : ℕ) (g : List ℕ) (b : Bool) → is_lapsed (moment_after w.moment told) (group_in w g).member ≡ b → group_in (step w (Tick told)) g ≡ cond b (without_member (group_in w g)) (group_in w g)
 tick_group w told g b e = group_expired (moment_after w.moment told) w.groups g ∙ ap (λ (t : Bool). cond t (without_member (group_in w g)) (group_in w g)) e
 
-lapse_is : (w : World) (e : Event) (g : List ℕ) → IsLapse w e g → IsLeft (group_in w g) (group_in (step w e) g)
+lapse_is : (w : World) (e : Event) (g : List ℕ) → IsLapse step w e g → IsLeft (group_in w g) (group_in (step w e) g)
 lapse_is w e g l =
     let silent : l.member.heard + l.member.session_timeout < (step w (Tick l.told)).moment = subst (λ (x : Event). l.member.heard + l.member.session_timeout < (step w x).moment) l.event l.silent in
     subst (λ (x : Event). IsLeft (group_in w g) (group_in (step w x) g)) (sym l.event)
     (subst (IsLeft (group_in w g)) (sym (tick_group w l.told g true (lapsed_is (moment_after w.moment l.told) (group_in w g).member l.member l.had silent))) (is_left (group_in w g)))
 
-tick_acts : (w : World) (told : ℕ) (g : List ℕ) → MayChange w (Tick told) g ⊎ IsAsBefore (group_in w g) (group_in (step w (Tick told)) g)
+tick_acts : (w : World) (told : ℕ) (g : List ℕ) → MayChange step reply_to w (Tick told) g ⊎ IsAsBefore (group_in w g) (group_in (step w (Tick told)) g)
 tick_acts w told g = by_lapse (is_lapsed (moment_after w.moment told) (group_in w g).member) refl where
-  lapse : (o : Option Member) → (group_in w g).member ≡ o → is_lapsed (moment_after w.moment told) o ≡ true → IsLapse w (Tick told) g
+  lapse : (o : Option Member) → (group_in w g).member ≡ o → is_lapsed (moment_after w.moment told) o ≡ true → IsLapse step w (Tick told) g
   lapse None had h = absurd (true≢false (sym h))
   lapse (Some m) had h = record { told = told; event = refl; member = m; had = had; silent = ltb-true (m.heard + m.session_timeout) (moment_after w.moment told) h }
 
-  by_lapse : (b : Bool) → is_lapsed (moment_after w.moment told) (group_in w g).member ≡ b → MayChange w (Tick told) g ⊎ IsAsBefore (group_in w g) (group_in (step w (Tick told)) g)
+  by_lapse : (b : Bool) → is_lapsed (moment_after w.moment told) (group_in w g).member ≡ b → MayChange step reply_to w (Tick told) g ⊎ IsAsBefore (group_in w g) (group_in (step w (Tick told)) g)
   by_lapse true e = inl (inr (inr (inr (inr (lapse (group_in w g).member refl e)))))
   by_lapse false e = inr (same_group (group_in w g) (group_in (step w (Tick told)) g) (tick_group w told g false e))
 
@@ -509,7 +509,7 @@ unless_refused : (o : Option Refusal) (w : World) (refused : ErrorCode → Reply
 unless_refused None w refused served h = h
 unless_refused (Some x) w refused served h = all_same w.groups
 
-acts : (w : World) (e : Event) (g : List ℕ) → MayChange w e g ⊎ IsAsBefore (group_in w g) (group_in (step w e) g)
+acts : (w : World) (e : Event) (g : List ℕ) → MayChange step reply_to w e g ⊎ IsAsBefore (group_in w g) (group_in (step w e) g)
 acts w (Ask caller client (Produce r)) g = inr (as_before (group_in w g))
 acts w (Ask caller client (Fetch r)) g = inr (as_before (group_in w g))
 acts w (Ask caller client (ListOffsets r)) g = inr (as_before (group_in w g))
@@ -538,7 +538,7 @@ acts w (Ask caller client (DeleteAcls r)) g = inr (unless_refused (part_refusal 
 acts w Mark g = inr (all_marked w (next_warrant w.coordinator) g)
 acts w (Tick told) g = tick_acts w told g
 
-pub members_go : (w : World) (e : Event) (g : List ℕ) → MembersGo w e g
+pub members_go : (w : World) (e : Event) (g : List ℕ) → MembersGo step reply_to w e g
 members_go w e g = record {
   joins = join_is w e g;
   syncs = sync_is w e g;

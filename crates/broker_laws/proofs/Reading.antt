@@ -7,6 +7,7 @@ use Rattle.group_offsets.specs.declared.group.Group.{Group as GroupValue}
 use Rattle.group_offsets.specs.Group.{fresh_group}
 use Rattle.broker_world.specs.World.{World}
 use Rattle.txn_handlers.specs.Marks.{mark_by}
+use Rattle.api_dispatch.specs.Step.{refusals_of}
 use Rattle.broker_laws.specs.Entries.{event_entry, log_entries}
 use Rattle.broker_laws.specs.Laws.{EntriesAreTheLog, MarksAreNotRefused}
 
@@ -22,5 +23,5 @@ by_front : (w : World) (o : Option PendingMarker) → (mark_by w o).refusals ≡
 by_front w None = refl
 by_front w (Some m) = refl
 
-pub marks_are_not_refused : MarksAreNotRefused
+pub marks_are_not_refused : MarksAreNotRefused refusals_of
 marks_are_not_refused w = by_front w (next_warrant w.coordinator)

@@ -295,5 +295,5 @@ module _ (w : World) (caller : Caller) (client : Option (List ℕ)) where
       let same = sync_same (sync_reply told) reply h in
       ap (λ (y : SyncGroupReply). y.assignment) (sym same) ∙ sync_failed told (λ zero. error (ap (λ (y : SyncGroupReply). number_of y.error) (sym same) ∙ zero)))
 
-pub calls_by_number : (w : World) → CallsByNumber w
+pub calls_by_number : CallsByNumber reply_to
 calls_by_number w = record { joins = joins_by w; syncs = syncs_by w; beats = beats_by w; leaves = leaves_by w; unjoined = unjoined_by w; unsynced = unsynced_by w }

@@ -69,9 +69,10 @@ use Rattle.txn_handlers.specs.InitProducerId.{init_answered, init_error}
 use Rattle.txn_handlers.specs.EndTxn.{ending_id, ending_id_and_epoch, ending_outcome}
 use Rattle.txn_handlers.specs.TxnOffsetCommit.{Staging, staging_of, staging_refusal}
 use Rattle.broker_world.specs.Clock.{moment_after}
-use Rattle.api_dispatch.specs.Step.{step, reply_to, world_after_events, refusals_of}
+use Rattle.api_dispatch.specs.Step.{step, reply_to, world_after_events}
 use Rattle.request_handlers.specs.Core.{CoreValue, IsCore}
 use Rattle.broker_laws.specs.Entries.{entry_of, event_entry, entries_in, small_world}
+use Rattle.broker_laws.specs.Rules.{WorldRule, RefusalsRule}
 use Rattle.broker_laws.specs.Moves.{moves_of, moves_of_all, count_of_mark_events}
 
 -- in each world that events reach from any settings
@@ -313,13 +314,14 @@ ComesBy w e g (Stage producer o) = IsStagingFor w e g producer
 ComesBy w e g (Decide producer outcome) = IsDecisionFor w e g producer outcome
 
 -- what a group holds stays, and after it comes what comes in such a way
-pub record GoesOn (w : World) (e : Event) (g : List ℕ) : Type 0 where
+pub record GoesOn (step : WorldRule) (w : World) (e : Event) (g : List ℕ) : Type 0 where
   pub more : List OffsetEvent
   pub events : (group_of (step w e).groups g).offsets ≡ (group_of w.groups g).offsets ++ more
   pub ways : Each (ComesBy w e g) more
 
-abbrev pub GroupsGoOn : World → Type 0
-GroupsGoOn w = (e : Event) (g : List ℕ) → GoesOn w e g
+-- whatever the world and the event are, each group keeps what it holds, and goes on after it
+abbrev pub GroupsGoOn : WorldRule → Type 0
+GroupsGoOn step = (w : World) (e : Event) (g : List ℕ) → GoesOn step w e g
 
 -- ---- the end of a transaction
 
@@ -341,8 +343,8 @@ EndsComplete w = (id : List ℕ) (t : Transaction) (outcome : TransactionResult)
     → IsCompletedBy w after id outcome
 
 -- no permission is asked for a marker step
-abbrev pub MarksAreNotRefused : Type 0
-MarksAreNotRefused = (w : World) → refusals_of w Mark ≡ []
+abbrev pub MarksAreNotRefused : RefusalsRule → Type 0
+MarksAreNotRefused refusals_of = (w : World) → refusals_of w Mark ≡ []
 
 -- ---- fencing
 

@@ -1,3 +1,4 @@
+pub mod Rules
 pub mod Entries
 pub mod Moves
 pub mod Targets
@@ -12,3 +13,4 @@ pub mod Commits
 pub mod Fetches
 pub mod MemberCodes
 pub mod Wrong
+pub mod WrongMembers

@@ -16,6 +16,7 @@ use Rattle.txn_laws.specs.Laws.{up_to_last}
 use Rattle.broker_world.specs.World.{World, LogValue}
 use Rattle.broker_world.specs.Logs.{log_at}
 use Rattle.api_dispatch.specs.Step.{step, world_after_events}
+use Rattle.broker_laws.specs.Rules.{WorldRule}
 use Rattle.broker_laws.specs.Moves.{count_of_mark_events}
 use Rattle.broker_laws.specs.Laws.{IsPreparedBy}
 
@@ -26,9 +27,11 @@ pub record IsLonger (old : LogValue) (found : Option LogValue) : Type 0 where
   pub more : List BatchData
   pub log : found ≡ Some (old ++ more)
 
-abbrev pub LogsGoOn : World → Type 0
-LogsGoOn w =
-    (e : Event) (p : TopicPartition) (log : LogValue) → log_at w.topics p.topic p.index ≡ Some log
+-- whatever the world and the event are, each log keeps what it holds, and goes on after it
+abbrev pub LogsGoOn : WorldRule → Type 0
+LogsGoOn step =
+    (w : World) (e : Event) (p : TopicPartition) (log : LogValue)
+    → log_at w.topics p.topic p.index ≡ Some log
     → IsLonger log (log_at (step w e).topics p.topic p.index)
 
 -- ---- what was open is ended

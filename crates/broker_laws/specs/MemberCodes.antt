@@ -20,8 +20,8 @@ use Rattle.audit_trail.specs.declared.event.Event.TheVariants.{Ask}
 use Rattle.group_offsets.specs.declared.group.Group.{Group}
 use Rattle.group_offsets.specs.declared.member.Member.{Member}
 use Rattle.broker_world.specs.World.{World, rules_of}
-use Rattle.api_dispatch.specs.Step.{reply_to}
 use Rattle.api_dispatch.specs.Questions.{asks_itself}
+use Rattle.broker_laws.specs.Rules.{ReplyRule}
 use Rattle.broker_laws.specs.Members.{group_in, IsMember, IsMemberIn}
 
 -- ---- JoinGroup
@@ -84,7 +84,7 @@ pub record TellsNothing (r : JoinGroupRequest) (reply : JoinGroupReply) : Type 0
   pub leader : reply.leader ≡ []
   pub members : reply.members ≡ []
 
-pub record CallsByNumber (w : World) : Type 0 where
+pub record TellsByNumber (reply_to : ReplyRule) (w : World) : Type 0 where
   pub joins : (caller : Caller) (client : Option (List ℕ)) (r : JoinGroupRequest)
       (reply : JoinGroupReply)
       → reply_to w (Ask caller client (JoinGroup r)) ≡ replies.JoinGroup reply
@@ -113,3 +113,8 @@ pub record CallsByNumber (w : World) : Type 0 where
       (reply : SyncGroupReply)
       → reply_to w (Ask caller client (SyncGroup r)) ≡ replies.SyncGroup reply
       → number_of reply.error ≢ pos 0 → reply.assignment ≡ []
+
+-- whatever the world is, the calls of members are told these numbers, and with an error nothing
+-- else of the group
+abbrev pub CallsByNumber : ReplyRule → Type 0
+CallsByNumber reply_to = (w : World) → TellsByNumber reply_to w

@@ -23,7 +23,7 @@ use Rattle.group_offsets.specs.declared.group.Group.{Group}
 use Rattle.group_offsets.specs.declared.member.Member.{Member}
 use Rattle.group_offsets.specs.Groups.{group_of}
 use Rattle.broker_world.specs.World.{World}
-use Rattle.api_dispatch.specs.Step.{step, reply_to, world_after_events}
+use Rattle.broker_laws.specs.Rules.{WorldRule, ReplyRule, world_after}
 
 -- the group of this name
 abbrev pub group_in : World → List ℕ → Group
@@ -45,7 +45,8 @@ pub record IsMemberIn (g : Group) (id : List ℕ) (generation : ℤ) : Type 0 wh
 -- ---- what may change that
 
 -- a JoinGroup for the group that is told no error
-pub record IsJoin (w : World) (e : Event) (g : List ℕ) : Type 0 where
+pub record IsJoin (reply_to : ReplyRule) (w : World) (e : Event) (g : List ℕ)
+    : Type 0 where
   pub caller : Caller
   pub client : Option (List ℕ)
   pub request : JoinGroupRequest
@@ -56,7 +57,8 @@ pub record IsJoin (w : World) (e : Event) (g : List ℕ) : Type 0 where
   pub no_error : number_of reply.error ≡ pos 0
 
 -- a SyncGroup for it that is told no error
-pub record IsSync (w : World) (e : Event) (g : List ℕ) : Type 0 where
+pub record IsSync (reply_to : ReplyRule) (w : World) (e : Event) (g : List ℕ)
+    : Type 0 where
   pub caller : Caller
   pub client : Option (List ℕ)
   pub request : SyncGroupRequest
@@ -67,7 +69,8 @@ pub record IsSync (w : World) (e : Event) (g : List ℕ) : Type 0 where
   pub no_error : number_of reply.error ≡ pos 0
 
 -- a Heartbeat for it that is told no error
-pub record IsBeat (w : World) (e : Event) (g : List ℕ) : Type 0 where
+pub record IsBeat (reply_to : ReplyRule) (w : World) (e : Event) (g : List ℕ)
+    : Type 0 where
   pub caller : Caller
   pub client : Option (List ℕ)
   pub request : HeartbeatRequest
@@ -78,7 +81,8 @@ pub record IsBeat (w : World) (e : Event) (g : List ℕ) : Type 0 where
   pub no_error : number_of reply.error ≡ pos 0
 
 -- a LeaveGroup for it that is told no error
-pub record IsLeave (w : World) (e : Event) (g : List ℕ) : Type 0 where
+pub record IsLeave (reply_to : ReplyRule) (w : World) (e : Event) (g : List ℕ)
+    : Type 0 where
   pub caller : Caller
   pub client : Option (List ℕ)
   pub request : LeaveGroupRequest
@@ -89,15 +93,18 @@ pub record IsLeave (w : World) (e : Event) (g : List ℕ) : Type 0 where
   pub no_error : number_of reply.error ≡ pos 0
 
 -- a tick, at whose moment nothing was heard of the member for longer than its session timeout
-pub record IsLapse (w : World) (e : Event) (g : List ℕ) : Type 0 where
+pub record IsLapse (step : WorldRule) (w : World) (e : Event) (g : List ℕ) : Type 0 where
   pub told : ℕ
   pub event : e ≡ Tick told
   pub member : Member
   pub had : (group_in w g).member ≡ Some member
   pub silent : member.heard + member.session_timeout < (step w e).moment
 
-abbrev pub MayChange : World → Event → List ℕ → Type 0
-MayChange w e g = IsJoin w e g ⊎ (IsSync w e g ⊎ (IsBeat w e g ⊎ (IsLeave w e g ⊎ IsLapse w e g)))
+abbrev pub MayChange : WorldRule → ReplyRule → World → Event → List ℕ → Type 0
+MayChange step reply_to w e g =
+    IsJoin reply_to w e g
+    ⊎ (IsSync reply_to w e g
+    ⊎ (IsBeat reply_to w e g ⊎ (IsLeave reply_to w e g ⊎ IsLapse step w e g)))
 
 -- ---- what it makes of the group
 
@@ -194,56 +201,64 @@ pub record IsAsBefore (old new : Group) : Type 0 where
   pub assignment : new.assignment ≡ old.assignment
 
 -- what each event makes of each group
-pub record MembersGo (w : World) (e : Event) (g : List ℕ) : Type 0 where
-  pub joins : (j : IsJoin w e g) → Joins w (group_in w g) (group_in (step w e) g) j.request j.reply
-  pub syncs : (s : IsSync w e g) → Syncs w (group_in w g) (group_in (step w e) g) s.request s.reply
-  pub beats : (b : IsBeat w e g) → Beats w (group_in w g) (group_in (step w e) g) b.request
-  pub leaves : (l : IsLeave w e g) → Leaves (group_in w g) (group_in (step w e) g) l.request
-  pub lapses : IsLapse w e g → IsLeft (group_in w g) (group_in (step w e) g)
-  pub nothing_else : MayChange w e g ⊎ IsAsBefore (group_in w g) (group_in (step w e) g)
+pub record MembersGo (step : WorldRule) (reply_to : ReplyRule) (w : World) (e : Event) (g : List ℕ)
+    : Type 0 where
+  pub joins : (j : IsJoin reply_to w e g)
+      → Joins w (group_in w g) (group_in (step w e) g) j.request j.reply
+  pub syncs : (s : IsSync reply_to w e g)
+      → Syncs w (group_in w g) (group_in (step w e) g) s.request s.reply
+  pub beats : (b : IsBeat reply_to w e g) → Beats w (group_in w g) (group_in (step w e) g) b.request
+  pub leaves : (l : IsLeave reply_to w e g)
+      → Leaves (group_in w g) (group_in (step w e) g) l.request
+  pub lapses : IsLapse step w e g → IsLeft (group_in w g) (group_in (step w e) g)
+  pub nothing_else : MayChange step reply_to w e g
+      ⊎ IsAsBefore (group_in w g) (group_in (step w e) g)
 
 -- ---- in short
 
 -- a leave of this member, or a lapse of it
-pub record IsLeaveOf (w : World) (e : Event) (g id : List ℕ) : Type 0 where
-  pub leave : IsLeave w e g
+pub record IsLeaveOf (reply_to : ReplyRule) (w : World) (e : Event) (g id : List ℕ) : Type 0 where
+  pub leave : IsLeave reply_to w e g
   pub whose : leave.request.member ≡ id
 
-pub record IsLapseOf (w : World) (e : Event) (g id : List ℕ) : Type 0 where
-  pub lapse : IsLapse w e g
+pub record IsLapseOf (step : WorldRule) (w : World) (e : Event) (g id : List ℕ) : Type 0 where
+  pub lapse : IsLapse step w e g
   pub whose : lapse.member.id ≡ id
 
-abbrev pub Ends : World → Event → List ℕ → List ℕ → Type 0
-Ends w e g id = IsLeaveOf w e g id ⊎ IsLapseOf w e g id
+abbrev pub Ends : WorldRule → ReplyRule → World → Event → List ℕ → List ℕ → Type 0
+Ends step reply_to w e g id = IsLeaveOf reply_to w e g id ⊎ IsLapseOf step w e g id
 
-pub record MembersInShort (w : World) (e : Event) (g : List ℕ) : Type 0 where
+pub record MembersInShort (step : WorldRule) (reply_to : ReplyRule) (w : World) (e : Event)
+    (g : List ℕ) : Type 0 where
   -- each join that is told no error raises the generation by one, and nothing else changes it
-  pub raised : IsJoin w e g
+  pub raised : IsJoin reply_to w e g
       → (group_in (step w e) g).generation ≡ (group_in w g).generation +ℤ pos 1
-  pub kept : (IsJoin w e g → ⊥) → (group_in (step w e) g).generation ≡ (group_in w g).generation
+  pub kept : (IsJoin reply_to w e g → ⊥)
+      → (group_in (step w e) g).generation ≡ (group_in w g).generation
   -- nobody comes in but by a join, goes but by a leave or a lapse, or becomes another
   pub comes : (m : Member) → (group_in w g).member ≡ None → (group_in (step w e) g).member ≡ Some m
-      → IsJoin w e g
+      → IsJoin reply_to w e g
   pub goes : (m : Member) → (group_in w g).member ≡ Some m → (group_in (step w e) g).member ≡ None
-      → Ends w e g m.id
+      → Ends step reply_to w e g m.id
   pub stays : (m n : Member) → (group_in w g).member ≡ Some m
       → (group_in (step w e) g).member ≡ Some n → n.id ≡ m.id
 
 -- one of these events ends the membership
-pub record EndsAmong (w : World) (es : List Event) (g id : List ℕ) : Type 0 where
+pub record EndsAmong (step : WorldRule) (reply_to : ReplyRule) (w : World) (es : List Event)
+    (g id : List ℕ) : Type 0 where
   pub before : List Event
   pub event : Event
   pub after : List Event
   pub parts : es ≡ before ++ event ∷ after
-  pub ends : Ends (world_after_events w before) event g id
+  pub ends : Ends step reply_to (world_after step w before) event g id
 
 -- between two joins of one group that are told no error and name different members there is a leave
 -- or a lapse of the first
-abbrev pub EndsBetween : World → Type 0
-EndsBetween w =
-    (g : List ℕ) (e f : Event) (between : List Event) (j : IsJoin w e g)
-    (k : IsJoin (world_after_events (step w e) between) f g)
-    → j.reply.member ≢ k.reply.member → EndsAmong (step w e) between g j.reply.member
+abbrev pub EndsBetween : WorldRule → ReplyRule → World → Type 0
+EndsBetween step reply_to w =
+    (g : List ℕ) (e f : Event) (between : List Event) (j : IsJoin reply_to w e g)
+    (k : IsJoin reply_to (world_after step (step w e) between) f g)
+    → j.reply.member ≢ k.reply.member → EndsAmong step reply_to (step w e) between g j.reply.member
 
 -- so it is before a group begins
 pub record IsFirst (g : Group) : Type 0 where
@@ -252,9 +267,13 @@ pub record IsFirst (g : Group) : Type 0 where
   pub assignment : g.assignment ≡ None
   pub offsets : g.offsets ≡ []
 
--- whatever the world is
-pub record MembersComeAndGo (w : World) : Type 0 where
+pub record MembersFrom (step : WorldRule) (reply_to : ReplyRule) (w : World) : Type 0 where
   pub first : w.groups ≡ [] → (g : List ℕ) → IsFirst (group_in w g)
-  pub each : (e : Event) (g : List ℕ) → MembersGo w e g
-  pub short : (e : Event) (g : List ℕ) → MembersInShort w e g
-  pub between : EndsBetween w
+  pub each : (e : Event) (g : List ℕ) → MembersGo step reply_to w e g
+  pub short : (e : Event) (g : List ℕ) → MembersInShort step reply_to w e g
+  pub between : EndsBetween step reply_to w
+
+-- whatever the world is, members come in by a JoinGroup and by nothing else, and go by a LeaveGroup
+-- of their own or by their time
+abbrev pub MembersComeAndGo : WorldRule → ReplyRule → Type 0
+MembersComeAndGo step reply_to = (w : World) → MembersFrom step reply_to w

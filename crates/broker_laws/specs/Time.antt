@@ -7,7 +7,7 @@ use Rattle.group_offsets.specs.declared.group.Group.{Group}
 use Rattle.group_offsets.specs.declared.member.Member.{Member}
 use Rattle.audit_trail.specs.declared.event.Event.TheVariants.{Tick}
 use Rattle.broker_world.specs.World.{World}
-use Rattle.audit_trail.specs.declared.event.Event.{Event}
+use Rattle.broker_laws.specs.Rules.{WorldRule}
 
 -- the moment never falls, and is what was told where that is later: up to 2^62 - 1 milliseconds
 pub record ShowsMoment (w : World) (told : ℕ) (v : World) : Type 0 where
@@ -49,10 +49,6 @@ pub record TickEnds (w : World) (told : ℕ) (v : World) : Type 0 where
   pub members : EndsMembers w v
   pub logs : v.topics ≡ w.topics
   pub bindings : v.book ≡ w.book
-
--- the world after an event
-abbrev pub WorldRule : Type 0
-WorldRule = World → Event → World
 
 -- whatever the world is, a tick moves the clock on, and ends what is over
 abbrev pub TicksEndWhatIsOver : WorldRule → Type 0

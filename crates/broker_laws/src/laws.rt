@@ -1,10 +1,11 @@
 //! The laws of the whole broker, each the contract of a function with nothing to do. Most hold of the world that any list of
 //! events reaches from any settings (`world_after_events`), and so of each core that isn't down (`cores`).
 
-ghost use Rattle.api_dispatch.specs.Step.{step};
+ghost use Rattle.api_dispatch.specs.Step.{refusals_of, reply_to, step};
 ghost use Rattle.broker_world.specs.First.{first_world};
 ghost use Rattle.broker_world.specs.World.{World};
-ghost use Rattle.broker_laws.specs.Wrong.{first_for_everybody, first_without_acls, step_ending_early, step_going_back, step_without_lapses};
+ghost use Rattle.broker_laws.specs.Wrong.{first_for_everybody, first_without_acls, refusals_of_marks, step_committing_at_once, step_ending_early, step_going_back, step_removing_groups, step_with_retention, step_without_lapses};
+ghost use Rattle.broker_laws.specs.WrongMembers.{reply_beating_for_anybody, reply_in_any_generation, reply_leaving_for_anybody, reply_letting_a_second_in, reply_telling_the_member, reply_unknown_for_full, step_keeping_generations, step_leaving_for_anybody, step_letting_a_second_in};
 ghost use Rattle.broker_laws.specs.Targets.{HasTargets};
 ghost use Rattle.broker_laws.specs.Laws.{InReached, InCores};
 ghost use Rattle.broker_laws.specs.Laws.{EntriesAreTheLog, IsMoved, EventsAreMoves};
@@ -102,7 +103,8 @@ pub fn commits_are_shown()
 
 /// What a partition's log holds stays there, whatever event comes: batches and markers are only appended.
 pub fn logs_go_on()
-    ensures { (w : World) → LogsGoOn w }
+    ensures each { LogsGoOn step }
+    ensures no_retention { ¬ LogsGoOn step_with_retention }
 {}
 
 /// Once a transaction's markers are written, all offsets that its producer had staged in each group that it took in are decided:
@@ -117,7 +119,9 @@ pub fn decides_groups()
 /// What a group holds of commits and decisions stays there. More comes only by an OffsetCommit for the group, by a
 /// TxnOffsetCommit for it of a transaction that takes the group in, or by the marker of such a transaction.
 pub fn groups_go_on()
-    ensures { (w : World) → GroupsGoOn w }
+    ensures each { GroupsGoOn step }
+    ensures no_removal { ¬ GroupsGoOn step_removing_groups }
+    ensures by_the_end { ¬ GroupsGoOn step_committing_at_once }
 {}
 
 /// A transaction that waits for its markers is CompleteCommit or CompleteAbort once the last of them is written.
@@ -128,7 +132,8 @@ pub fn ends_complete()
 
 /// A mark, which writes the next pending marker, asks for no permission: the trail keeps no refusal of it.
 pub fn marks_are_not_refused()
-    ensures { MarksAreNotRefused }
+    ensures marks { MarksAreNotRefused refusals_of }
+    ensures unasked { ¬ MarksAreNotRefused refusals_of_marks }
 {}
 
 /// The trail alone shows which events prepared an open transaction for its end: an EndTxn that was answered no error, an
@@ -186,7 +191,11 @@ pub fn no_data_after_a_greater_marker()
 /// nothing else does, and goes by its own LeaveGroup or when its session times out. Between two such joins of different members
 /// there is one of these.
 pub fn members_come_and_go()
-    ensures { (w : World) → MembersComeAndGo w }
+    ensures members { MembersComeAndGo step reply_to }
+    ensures one { ¬ MembersComeAndGo step_letting_a_second_in reply_letting_a_second_in }
+    ensures generations { ¬ MembersComeAndGo step_keeping_generations reply_to }
+    ensures own { ¬ MembersComeAndGo step_leaving_for_anybody reply_leaving_for_anybody }
+    ensures lapses { ¬ MembersComeAndGo step_without_lapses reply_to }
 {}
 
 /// An OffsetCommit of a group's member in its generation, or one without a member where the group has none, commits each offset
@@ -199,7 +208,11 @@ pub fn commits_are_of_members()
 /// By the numbers of the protocol guide: which error a JoinGroup, SyncGroup, Heartbeat and LeaveGroup is answered; and that
 /// whoever gets one learns nothing of the group.
 pub fn member_calls_by_number()
-    ensures { (w : World) → CallsByNumber w }
+    ensures numbers { CallsByNumber reply_to }
+    ensures strangers { ¬ CallsByNumber reply_beating_for_anybody }
+    ensures generations { ¬ CallsByNumber reply_in_any_generation }
+    ensures full { ¬ CallsByNumber reply_unknown_for_full }
+    ensures nothing { ¬ CallsByNumber reply_telling_the_member }
 {}
 
 /// An offset whose OffsetCommit was told no error is what an OffsetFetch tells, until the group commits or decides another for
