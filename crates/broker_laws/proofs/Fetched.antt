@@ -20,6 +20,7 @@ use Rattle.group_offsets.specs.Offsets.{fetch_result}
 use Rattle.broker_world.specs.World.{World, rules_of}
 use Rattle.group_handlers.specs.OffsetFetch.{group_question, fetched_offset, offset_rule, offsets_of, fetched_outcome, offset_fetch_by}
 use Rattle.broker_laws.specs.Commits.{BothTopics}
+use Rattle.api_dispatch.specs.Step.{reply_to}
 use Rattle.broker_laws.specs.Fetches.{IsTold, IsFetchAnswer, FetchesBy, FetchesNamed}
 use Rattle.broker_laws.proofs.Passing.{never_none}
 use Rattle.broker_laws.proofs.Turning.{zero_is, none_zero}
@@ -85,7 +86,7 @@ fetch_refused w caller r reply told may_not = by_refusal (part_refusal (rules_of
       (ap (λ (y : OffsetFetchReply). number_of y.error) (sym same) ∙ describe_number (rules_of w) caller r.group x e, sym (ap (λ (y : OffsetFetchReply). y.topics) same))
   by_refusal None e h = absurd (may_not e)
 
-pub fetches_named : (w : World) → FetchesNamed w
+pub fetches_named : (w : World) → FetchesNamed reply_to w
 fetches_named w caller client r ts reply told is = by_refusal (part_refusal (rules_of w) (group_question caller r.group ∷ [])) refl told where
   by_refusal : (o : Option Refusal) → part_refusal (rules_of w) (group_question caller r.group ∷ []) ≡ o → (offset_fetch_by o w caller r).reply ≡ replies.OffsetFetch reply → FetchesBy w caller r ts reply
   by_refusal (Some x) e h =

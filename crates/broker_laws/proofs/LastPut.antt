@@ -190,7 +190,7 @@ commit_else : (es : List OffsetEvent) (p : ℤ) (topic : List ℕ) (index : ℤ)
 commit_else es p topic index none =
     ap ok (committed_goes_on.commit es p topic index ∙ ap (λ (w : Option PartitionOffset). or_else w (offset_of es topic index)) (nothing_waits es p topic index none))
 
-pub fetches_by_events : FetchesByEvents
+pub fetches_by_events : FetchesByEvents fetch_result
 fetches_by_events = record {
   none = λ topic index. refl;
   put = put_is;

@@ -39,3 +39,4 @@ pub mod Worked
 pub mod Wrong
 pub mod WrongLogs
 pub mod WrongMembers
+pub mod WrongOffsets

@@ -41,7 +41,7 @@ use Rattle.broker_world.specs.Logs.{log_at}
 use Rattle.broker_world.specs.Codes.{code_in}
 use Rattle.group_handlers.specs.OffsetCommit.{committing_of, offset_of, committed_code, code_by, groups_by, committing_rule}
 use Rattle.txn_handlers.specs.TxnOffsetCommit.{staging_of, offset_staged, staged_code, transition_by, staging_refusal, staging_rule}
-use Rattle.api_dispatch.specs.Step.{reply_to}
+use Rattle.api_dispatch.specs.Step.{step, reply_to}
 use Rattle.broker_laws.specs.Members.{group_in, IsMember, IsMemberIn, IsAsBefore}
 use Rattle.broker_laws.specs.Commits.{IsNobody, IsAssigned, MayCommit, IsCommitNumber, MayStage, IsStageNumber, BothTopics, made_topics, MayAsk, IsCommitAnswer, put_part, CommitsBy, IsStageAnswer, stage_part, StagesBy, CommitsAreOfMembers}
 use Rattle.broker_laws.proofs.Offsets.{text_is, noted_offsets}
@@ -343,7 +343,7 @@ module _ (w : World) (caller : Caller) (r : OffsetCommitRequest) where
 commit_topics : (a b : OffsetCommitReply) → replies.OffsetCommit a ≡ replies.OffsetCommit b → a.topics ≡ b.topics
 commit_topics a b h = let same : a ≡ b = cc in ap (λ (x : OffsetCommitReply). x.topics) same
 
-pub commits_by : (w : World) (caller : Caller) (client : Option (List ℕ)) (r : OffsetCommitRequest) (reply : OffsetCommitReply) → reply_to w (Ask caller client (OffsetCommit r)) ≡ replies.OffsetCommit reply → CommitsBy w caller client r reply
+pub commits_by : (w : World) (caller : Caller) (client : Option (List ℕ)) (r : OffsetCommitRequest) (reply : OffsetCommitReply) → reply_to w (Ask caller client (OffsetCommit r)) ≡ replies.OffsetCommit reply → CommitsBy step w caller client r reply
 commits_by w caller client r reply told =
     let walk = woven (committing_rule w caller r) (rules_of w) w.groups r.topics in
     let all = commits_all w caller r in
@@ -473,7 +473,7 @@ module _ (w : World) (caller : Caller) (r : TxnOffsetCommitRequest) where
 stage_topics : (a b : TxnOffsetCommitReply) → replies.TxnOffsetCommit a ≡ replies.TxnOffsetCommit b → a.topics ≡ b.topics
 stage_topics a b h = let same : a ≡ b = cc in ap (λ (x : TxnOffsetCommitReply). x.topics) same
 
-pub stages_by : (w : World) (caller : Caller) (client : Option (List ℕ)) (r : TxnOffsetCommitRequest) (reply : TxnOffsetCommitReply) → reply_to w (Ask caller client (TxnOffsetCommit r)) ≡ replies.TxnOffsetCommit reply → StagesBy w caller client r reply
+pub stages_by : (w : World) (caller : Caller) (client : Option (List ℕ)) (r : TxnOffsetCommitRequest) (reply : TxnOffsetCommitReply) → reply_to w (Ask caller client (TxnOffsetCommit r)) ≡ replies.TxnOffsetCommit reply → StagesBy step w caller client r reply
 stages_by w caller client r reply told =
     let walk = woven (staging_rule w caller r) (rules_of w) w.groups r.topics in
     let all = stages_all w caller r in
@@ -486,5 +486,5 @@ stages_by w caller client r reply told =
       none = λ none. sym walk.world ∙ stage_none w caller r none;
     }
 
-pub commits_are_of_members : (w : World) → CommitsAreOfMembers w
+pub commits_are_of_members : CommitsAreOfMembers step reply_to
 commits_are_of_members w = record { commits = commits_by w; stages = stages_by w }

@@ -38,7 +38,7 @@ use Rattle.api_dispatch.specs.Step.{step, reply_to}
 use Rattle.broker_laws.specs.Laws.{IsCommitFor, IsDecisionFor, ComesBy}
 use Rattle.broker_laws.specs.Members.{group_in}
 use Rattle.broker_laws.specs.Commits.{BothParts, BothTopics, made_parts, made_topics, IsAmong, put_part}
-use Rattle.broker_laws.specs.Fetches.{IsOf, IsTold, IsFetchAnswer, LeavesOffset, KeepsOffsets, PutsOther, IsLastOf, Tells, TellsOf, FetchesWhatWasCommitted, CommitsAreFetched}
+use Rattle.broker_laws.specs.Fetches.{IsOf, IsTold, IsFetchAnswer, LeavesOffset, KeepsOffsets, PutsOther, IsLastOf, Tells, TellsOf, FetchesWhatWasCommitted, OffsetsAreTold, CommitsAreFetched}
 use Rattle.broker_laws.proofs.Offsets.{text_is, noted_offsets}
 use Rattle.broker_laws.proofs.Growing.{groups_go_on}
 use Rattle.broker_laws.proofs.Fetched.{fetches_named}
@@ -216,5 +216,8 @@ fetches_what_was_committed w committer client c answer o between told last leave
     let is = ap (λ (x : World). fetch_result (group_in x c.group).offsets false o.topic o.index) at ∙ kept ∙ is_told w committer client c answer o told last in
     both_weaker (IsFetchAnswer v caller r) (TellsOf v caller r o) (tells_of v caller r c.group o of_group is) ts reply.topics ((fetches_named v caller agent r ts reply replied names).answers zero)
 
+pub offsets_are_told : OffsetsAreTold reply_to
+offsets_are_told w = record { named = fetches_named w; unnamed = fetches_unnamed w }
+
 pub commits_are_fetched : (w : World) → CommitsAreFetched w
-commits_are_fetched w = record { named = fetches_named w; unnamed = fetches_unnamed w; kept = keeps_offsets w; round_trip = fetches_what_was_committed w; staged = staged_is_fetched w }
+commits_are_fetched w = record { kept = keeps_offsets w; round_trip = fetches_what_was_committed w; staged = staged_is_fetched w }

@@ -21,6 +21,7 @@ use Rattle.broker_world.specs.World.{World, TopicValue, rules_of, topic_names}
 use Rattle.broker_world.specs.Questions.{topic_refusal}
 use Rattle.group_handlers.specs.OffsetFetch.{group_question, fetched_offset, listed_offset_at, listed_offsets_from, listed_topic_of, listed_topic, listed_topics, offsets_of, fetched_outcome, offset_fetch_by}
 use Rattle.broker_laws.specs.Commits.{IsAmong}
+use Rattle.api_dispatch.specs.Step.{reply_to}
 use Rattle.broker_laws.specs.Fetches.{IsTold, IsSubsequence, AreRising, HasTold, IsToldIn, FetchesAll, FetchesUnnamed}
 use Rattle.broker_laws.proofs.Turning.{none_zero}
 use Rattle.broker_laws.proofs.Fetched.{place_as, told_as_it, fetch_same, fetch_refused}
@@ -255,5 +256,5 @@ all_granted w caller r reply told null granted =
     let same = fetch_same (record { throttle = pos 0; topics = listed_topics (rules_of w) caller es r.require_stable w.topics; error = errors.None }) reply named in
     (ap (λ (y : OffsetFetchReply). number_of y.error) (sym same) ∙ none_zero, subst (FetchesAll w caller r) same (told_all w caller r))
 
-pub fetches_unnamed : (w : World) → FetchesUnnamed w
+pub fetches_unnamed : (w : World) → FetchesUnnamed reply_to w
 fetches_unnamed w caller client r reply told null = record { granted = all_granted w caller r reply told null; refused = fetch_refused w caller r reply told }

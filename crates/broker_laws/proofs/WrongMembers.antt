@@ -32,7 +32,7 @@ some_is : (a b : Member) → Some a ≡ Some b → a ≡ b
 some_is a b h = cc
 
 -- `xx` isn't the member
-not_xx : IsMember group (bytes "xx") → ⊥
+pub not_xx : IsMember group (bytes "xx") → ⊥
 not_xx is = apart (ap (λ (y : Member). y.id) (some_is member is.member is.has) ∙ is.named) where
   apart : bytes "m" ≡ bytes "xx" → ⊥
   apart h = let clash : ◌≡◌ {A = ℕ} 1 2 = ap (λ (l : List ℕ). length l) h in cc

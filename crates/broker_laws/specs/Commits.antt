@@ -25,8 +25,8 @@ use Rattle.group_offsets.specs.declared.member.Member.{Member}
 use Rattle.broker_world.specs.World.{World, LogValue, rules_of}
 use Rattle.broker_world.specs.Logs.{log_at}
 use Rattle.txn_handlers.specs.TxnOffsetCommit.{staging_of, staging_refusal}
-use Rattle.api_dispatch.specs.Step.{step, reply_to}
 use Rattle.api_dispatch.specs.Questions.{asks_at}
+use Rattle.broker_laws.specs.Rules.{WorldRule, ReplyRule}
 use Rattle.broker_laws.specs.Members.{group_in, IsMember, IsMemberIn}
 
 -- ---- who may commit
@@ -143,7 +143,7 @@ put_part name p a =
     ∷ []
     else []
 
-pub record CommitsBy (w : World) (caller : Caller) (client : Option (List ℕ))
+pub record CommitsBy (step : WorldRule) (w : World) (caller : Caller) (client : Option (List ℕ))
     (r : OffsetCommitRequest) (reply : OffsetCommitReply) : Type 0 where
   pub answers : BothTopics (IsCommitAnswer w caller r) r.topics reply.topics
   -- so much, and nothing else, comes into the group
@@ -185,7 +185,7 @@ stage_part producer name p a =
     ∷ []
     else []
 
-pub record StagesBy (w : World) (caller : Caller) (client : Option (List ℕ))
+pub record StagesBy (step : WorldRule) (w : World) (caller : Caller) (client : Option (List ℕ))
     (r : TxnOffsetCommitRequest) (reply : TxnOffsetCommitReply) : Type 0 where
   pub answers : BothTopics (IsStageAnswer w caller r) r.topics reply.topics
   pub offsets : (group_in (step w (Ask caller client (TxnOffsetCommit r))) r.group).offsets
@@ -195,13 +195,17 @@ pub record StagesBy (w : World) (caller : Caller) (client : Option (List ℕ))
   pub none : (MayStage (group_in w r.group) r.generation r.member → ⊥)
       → (step w (Ask caller client (TxnOffsetCommit r))).groups ≡ w.groups
 
--- whatever the world is
-pub record CommitsAreOfMembers (w : World) : Type 0 where
+pub record CommitsAndStages (step : WorldRule) (reply_to : ReplyRule) (w : World) : Type 0 where
   pub commits : (caller : Caller) (client : Option (List ℕ)) (r : OffsetCommitRequest)
       (reply : OffsetCommitReply)
       → reply_to w (Ask caller client (OffsetCommit r)) ≡ replies.OffsetCommit reply
-      → CommitsBy w caller client r reply
+      → CommitsBy step w caller client r reply
   pub stages : (caller : Caller) (client : Option (List ℕ)) (r : TxnOffsetCommitRequest)
       (reply : TxnOffsetCommitReply)
       → reply_to w (Ask caller client (TxnOffsetCommit r)) ≡ replies.TxnOffsetCommit reply
-      → StagesBy w caller client r reply
+      → StagesBy step w caller client r reply
+
+-- whatever the world is, an OffsetCommit of the group's member commits what it is told no error
+-- for, and one of anybody else commits nothing; and a TxnOffsetCommit stages so
+abbrev pub CommitsAreOfMembers : WorldRule → ReplyRule → Type 0
+CommitsAreOfMembers step reply_to = (w : World) → CommitsAndStages step reply_to w

@@ -28,6 +28,7 @@ use Rattle.group_offsets.specs.Offsets.{fetch_result}
 use Rattle.txn_laws.specs.Sound.{Each}
 use Rattle.broker_world.specs.World.{World, TopicValue, topic_names}
 use Rattle.api_dispatch.specs.Step.{step, reply_to, world_after_events}
+use Rattle.broker_laws.specs.Rules.{ReplyRule}
 use Rattle.broker_laws.specs.Laws.{IsDecisionFor}
 use Rattle.broker_laws.specs.Members.{group_in}
 use Rattle.broker_laws.specs.MemberCodes.{IsGranted}
@@ -74,8 +75,12 @@ pub record WaitsLast (es : List OffsetEvent) (producer : ℤ) (topic : List ℕ)
 abbrev pub IsUnstable : Result (Option PartitionOffset) ErrorCode → Type 0
 IsUnstable told = (code : ErrorCode) × (told ≡ Err code) × (number_of code ≡ pos 88)
 
--- what each further event makes of what is fetched
-pub record FetchesByEvents : Type 0 where
+-- what is told of a partition, by a group's offset events, and whether a stable offset is wanted
+abbrev pub FetchRule : Type 0
+FetchRule = List OffsetEvent → Bool → List ℕ → ℤ → Result (Option PartitionOffset) ErrorCode
+
+-- what each further event of a group makes of the offset that is fetched
+pub record FetchesByEvents (fetch_result : FetchRule) : Type 0 where
   pub none : (topic : List ℕ) (index : ℤ) → fetch_result [] false topic index ≡ Ok None
   -- a commit is told of
   pub put : (es : List OffsetEvent) (o : PartitionOffset) (topic : List ℕ) (index : ℤ)
@@ -134,8 +139,8 @@ pub record FetchesBy (w : World) (caller : Caller) (r : OffsetFetchRequest) (ts 
   pub answers : number_of reply.error ≡ pos 0
       → BothTopics (IsFetchAnswer w caller r) ts reply.topics
 
-abbrev pub FetchesNamed : World → Type 0
-FetchesNamed w =
+abbrev pub FetchesNamed : ReplyRule → World → Type 0
+FetchesNamed reply_to w =
     (caller : Caller) (client : Option (List ℕ)) (r : OffsetFetchRequest) (ts : List (Topic ℤ))
     (reply : OffsetFetchReply)
     → reply_to w (Ask caller client (OffsetFetch r)) ≡ replies.OffsetFetch reply
@@ -192,11 +197,20 @@ pub record FetchesAllBy (w : World) (caller : Caller) (r : OffsetFetchRequest)
   pub refused : (IsGranted w caller (OffsetFetch r) → ⊥)
       → (number_of reply.error ≡ pos 30) × (reply.topics ≡ [])
 
-abbrev pub FetchesUnnamed : World → Type 0
-FetchesUnnamed w =
+abbrev pub FetchesUnnamed : ReplyRule → World → Type 0
+FetchesUnnamed reply_to w =
     (caller : Caller) (client : Option (List ℕ)) (r : OffsetFetchRequest) (reply : OffsetFetchReply)
     → reply_to w (Ask caller client (OffsetFetch r)) ≡ replies.OffsetFetch reply
     → r.topics ≡ None → FetchesAllBy w caller r reply
+
+pub record FetchesTell (reply_to : ReplyRule) (w : World) : Type 0 where
+  pub named : FetchesNamed reply_to w
+  pub unnamed : FetchesUnnamed reply_to w
+
+-- whatever the world is, an OffsetFetch tells of each partition that it names what the group's
+-- offset events say, and without a list of all that they say something of
+abbrev pub OffsetsAreTold : ReplyRule → Type 0
+OffsetsAreTold reply_to = (w : World) → FetchesTell reply_to w
 
 -- ---- events between
 
@@ -340,8 +354,6 @@ pub record StagedIsFetched (w : World) : Type 0 where
 
 -- whatever the world is
 pub record CommitsAreFetched (w : World) : Type 0 where
-  pub named : FetchesNamed w
-  pub unnamed : FetchesUnnamed w
   pub kept : KeepsOffsets w
   pub round_trip : FetchesWhatWasCommitted w
   pub staged : StagedIsFetched w

@@ -14,3 +14,4 @@ pub mod Fetches
 pub mod MemberCodes
 pub mod Wrong
 pub mod WrongMembers
+pub mod WrongOffsets

@@ -20,7 +20,9 @@ ghost use Rattle.broker_laws.specs.Trails.{TrailTells, CompletesOverATrail, Comp
 ghost use Rattle.broker_laws.specs.Members.{MembersComeAndGo};
 ghost use Rattle.broker_laws.specs.Commits.{CommitsAreOfMembers};
 ghost use Rattle.broker_laws.specs.MemberCodes.{CallsByNumber};
-ghost use Rattle.broker_laws.specs.Fetches.{FetchesByEvents, CommitsAreFetched};
+ghost use Rattle.broker_laws.specs.Fetches.{FetchesByEvents, OffsetsAreTold, CommitsAreFetched};
+ghost use Rattle.broker_laws.specs.WrongOffsets.{fetch_of_nothing, fetch_of_staged, fetch_of_unstable, reply_committing_for_anybody, reply_committing_in_any_generation, reply_naming_nothing, reply_with_unstable_offsets, reply_without_offsets, step_committing_for_anybody, step_committing_in_any_generation, step_committing_nothing};
+ghost use Rattle.group_offsets.specs.Offsets.{fetch_result};
 
 /// A broker begins with the ACL bindings of its settings, each once, numbered from 1, and in their order where all are different;
 /// and with their topics in order, each with so many empty partitions.
@@ -202,7 +204,11 @@ pub fn members_come_and_go()
 /// for which it is told no error; one of another member or generation commits nothing. The same holds of what a TxnOffsetCommit
 /// stages.
 pub fn commits_are_of_members()
-    ensures { (w : World) → CommitsAreOfMembers w }
+    ensures members { CommitsAreOfMembers step reply_to }
+    ensures generations { ¬ CommitsAreOfMembers step_committing_in_any_generation reply_committing_in_any_generation }
+    ensures strangers { ¬ CommitsAreOfMembers step_committing_for_anybody reply_committing_for_anybody }
+    ensures told { ¬ CommitsAreOfMembers step_committing_nothing reply_to }
+    ensures staged { ¬ CommitsAreOfMembers step_committing_at_once reply_to }
 {}
 
 /// By the numbers of the protocol guide: which error a JoinGroup, SyncGroup, Heartbeat and LeaveGroup is answered; and that
@@ -219,6 +225,13 @@ pub fn member_calls_by_number()
 /// that partition; and so is one of a TxnOffsetCommit, once its transaction commits. For each commit and decision it is said what
 /// is fetched after it.
 pub fn commits_are_fetched()
-    ensures by_events { FetchesByEvents }
+    ensures by_events { FetchesByEvents fetch_result }
+    ensures some { ¬ FetchesByEvents fetch_of_nothing }
+    ensures committed { ¬ FetchesByEvents fetch_of_staged }
+    ensures stable { ¬ FetchesByEvents fetch_of_unstable }
+    ensures told { OffsetsAreTold reply_to }
+    ensures offsets { ¬ OffsetsAreTold reply_without_offsets }
+    ensures require_stable { ¬ OffsetsAreTold reply_with_unstable_offsets }
+    ensures unnamed { ¬ OffsetsAreTold reply_naming_nothing }
     ensures over_events { (w : World) → CommitsAreFetched w }
 {}
