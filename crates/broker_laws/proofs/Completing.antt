@@ -116,7 +116,7 @@ kept_producer : (target : Target) (pair : ProducerIdAndEpoch) → (kept_id_and_e
 kept_producer (Partition p) pair = refl
 kept_producer (Group g) pair = refl
 
-pub prepared_done : (w : World) → IsGood w → (e : Event) (id : List ℕ) (t : Transaction) (o : TransactionResult) (after : List Event) → IsPreparedBy w e id t o → up_to_last (step w e).coordinator.warrants id ≤ count_of_mark_events after
+pub prepared_done : (w : World) → IsGood w → (e : Event) (id : List ℕ) (t : Transaction) (o : TransactionResult) (after : List Event) → IsPreparedBy step w e id t o → up_to_last (step w e).coordinator.warrants id ≤ count_of_mark_events after
     → Each (λ target. IsDone t.pair.producer o (entries_in w target) (entries_in (world_after_events (step w e) after) target)) (targets t)
 prepared_done w good e id t o after by enough =
     let pair = marker_id_and_epoch e t.pair in

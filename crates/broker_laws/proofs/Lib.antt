@@ -40,3 +40,4 @@ pub mod Wrong
 pub mod WrongLogs
 pub mod WrongMembers
 pub mod WrongOffsets
+pub mod WrongEnds

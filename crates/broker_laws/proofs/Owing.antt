@@ -59,7 +59,7 @@ use Rattle.acl_handlers.specs.CreateAcls.{alter_questions}
 use Rattle.api_dispatch.specs.Step.{step}
 use Rattle.api_dispatch.proofs.Wholes.{offsets_keep}
 use Rattle.broker_laws.specs.Entries.{entries_in}
-use Rattle.broker_laws.specs.Laws.{InReached, marker_id_and_epoch, id_and_epoch_left, OwesEach, OwesPrepared}
+use Rattle.broker_laws.specs.Laws.{marker_id_and_epoch, id_and_epoch_left, OwesEach, OwesPrepared, OwesMarkers}
 use Rattle.broker_laws.proofs.Offsets.{same_entries, expiry_keeps}
 use Rattle.broker_laws.proofs.Reached.{full, IsGood, good_moved, good}
 
@@ -290,7 +290,7 @@ due_markers (x ∷ xs) moment id t found due = by_same (due_markers xs moment id
 
 -- ---- an event
 
-tick_owes : (w : World) (told : ℕ) (id : List ℕ) (t u : Transaction) (o : TransactionResult) → id_record w.coordinator.transactions id ≡ Some t → t.state ≡ Ongoing → id_record (step w (Tick told)).coordinator.transactions id ≡ Some u → u.state ≡ prepared_phase o → OwesEach w (Tick told) id t o
+tick_owes : (w : World) (told : ℕ) (id : List ℕ) (t u : Transaction) (o : TransactionResult) → id_record w.coordinator.transactions id ≡ Some t → t.state ≡ Ongoing → id_record (step w (Tick told)).coordinator.transactions id ≡ Some u → u.state ≡ prepared_phase o → OwesEach step w (Tick told) id t o
 tick_owes w told id t u o before ongoing after waits = by_due (is_due moment t) refl refl where
   moment : ℕ
   moment = moment_after w.moment told
@@ -301,7 +301,7 @@ tick_owes w told id t u o before ongoing after waits = by_due (is_due moment t) 
       let same : fenced_if_due moment t ≡ u = cc in
       ap (λ (y : Transaction). y.state) same ∙ waits
 
-  by_due : (b : Bool) → is_due moment t ≡ b → fenced_if_due moment t ≡ cond b (fenced_transaction t) t → OwesEach w (Tick told) id t o
+  by_due : (b : Bool) → is_due moment t ≡ b → fenced_if_due moment t ≡ cond b (fenced_transaction t) t → OwesEach step w (Tick told) id t o
   by_due false due is = absurd (ongoing_waits o (sym ongoing ∙ ap (λ (y : Transaction). y.state) (sym is) ∙ state))
   by_due true due is =
       let among = due_markers w.coordinator.transactions moment id t before due in
@@ -325,17 +325,17 @@ module _ (w : World) (good : IsGood w) (id : List ℕ) (t u : Transaction) (o : 
   same_record ts v here found = let twice : Some v ≡ Some u = sym found ∙ here in cc
 
   -- an event that leaves the coordinator as it is
-  unchanged : (e : Event) → (step w e).coordinator ≡ w.coordinator → id_record (step w e).coordinator.transactions id ≡ Some u → OwesEach w e id t o
+  unchanged : (e : Event) → (step w e).coordinator ≡ w.coordinator → id_record (step w e).coordinator.transactions id ≡ Some u → OwesEach step w e id t o
   unchanged e same after = absurd (still w.coordinator.transactions id t u o before ongoing (ap (λ (c : CoordinatorValue). id_record c.transactions id) (sym same) ∙ after) waits)
 
   -- so does a request that changes nothing of it, refused or not
-  unless_refused : (e : Event) (refusal : Option Refusal) (refused : ErrorCode → Reply) (served : Served) → served.world.coordinator ≡ w.coordinator → id_record (whole_outcome_by refusal w refused served).world.coordinator.transactions id ≡ Some u → OwesEach w e id t o
+  unless_refused : (e : Event) (refusal : Option Refusal) (refused : ErrorCode → Reply) (served : Served) → served.world.coordinator ≡ w.coordinator → id_record (whole_outcome_by refusal w refused served).world.coordinator.transactions id ≡ Some u → OwesEach step w e id t o
   unless_refused e None refused served same after = absurd (still w.coordinator.transactions id t u o before ongoing (ap (λ (c : CoordinatorValue). id_record c.transactions id) (sym same) ∙ after) waits)
   unless_refused e (Some x) refused served same after = absurd (still w.coordinator.transactions id t u o before ongoing after waits)
 
   -- a transition that owes the markers at once
   owes_all : (e : Event) (pair left : ProducerIdAndEpoch) (warrants : List PendingMarker) → (step w e).coordinator.warrants ≡ warrants → warrants ≡ w.coordinator.warrants ++ markers t pair o → marker_id_and_epoch e t.pair ≡ pair → id_and_epoch_left w e t.pair ≡ left
-      → id_record (step w e).coordinator.transactions id ≡ Some u → u.pair ≡ left → ((target : Target) → entries_in (step w e) target ≡ entries_in w target) → OwesEach w e id t o
+      → id_record (step w e).coordinator.transactions id ≡ Some u → u.pair ≡ left → ((target : Target) → entries_in (step w e) target ≡ entries_in w target) → OwesEach step w e id t o
   owes_all e pair left warrants now owed carries leaves after own entries = record {
     front = [];
     back = [];
@@ -344,7 +344,7 @@ module _ (w : World) (good : IsGood w) (id : List ℕ) (t u : Transaction) (o : 
     pair = λ v found. ap (λ (y : Transaction). y.pair) (same_record (step w e).coordinator.transactions v after found) ∙ own ∙ sym leaves;
   }
 
-  end_event : (caller : Caller) (client : Option (List ℕ)) (r : EndTxnRequest) → id_record (step w (Ask caller client (EndTxn r))).coordinator.transactions id ≡ Some u → OwesEach w (Ask caller client (EndTxn r)) id t o
+  end_event : (caller : Caller) (client : Option (List ℕ)) (r : EndTxnRequest) → id_record (step w (Ask caller client (EndTxn r))).coordinator.transactions id ≡ Some u → OwesEach step w (Ask caller client (EndTxn r)) id t o
   end_event caller client r after = by_refusal (part_refusal (rules_of w) (end_questions caller r)) refl where
     e : Event
     e = Ask caller client (EndTxn r)
@@ -356,15 +356,15 @@ module _ (w : World) (good : IsGood w) (id : List ℕ) (t u : Transaction) (o : 
     entries None target = refl
     entries (Some x) target = refl
 
-    by_refusal : (x : Option Refusal) → part_refusal (rules_of w) (end_questions caller r) ≡ x → OwesEach w e id t o
+    by_refusal : (x : Option Refusal) → part_refusal (rules_of w) (end_questions caller r) ≡ x → OwesEach step w e id t o
     by_refusal x is = by_served x (ap (λ y. (left_by y).coordinator) is) where
-      by_served : (y : Option Refusal) → (step w e).coordinator ≡ (left_by y).coordinator → OwesEach w e id t o
+      by_served : (y : Option Refusal) → (step w e).coordinator ≡ (left_by y).coordinator → OwesEach step w e id t o
       by_served (Some y) same = unchanged e same after
       by_served None same =
           let owes = end_owes w.coordinator id t o before ongoing (form_of r) (ending_id r) (ending_id_and_epoch r) (ending_outcome r) u (ap (λ (c : CoordinatorValue). id_record c.transactions id) (sym same) ∙ after) waits in
           owes_all e (ending_marker (form_of r) t.pair) (ending_left (form_of r) t.pair (fresh_producer_id w.coordinator)) _ (ap (λ (c : CoordinatorValue). c.warrants) same) owes.0 (marker_of caller client r t.pair) (left_of w caller client r t.pair) after owes.1 (entries (part_refusal (rules_of w) (end_questions caller r)))
 
-  init_event : (caller : Caller) (client : Option (List ℕ)) (r : InitProducerIdRequest) → id_record (step w (Ask caller client (InitProducerId r))).coordinator.transactions id ≡ Some u → OwesEach w (Ask caller client (InitProducerId r)) id t o
+  init_event : (caller : Caller) (client : Option (List ℕ)) (r : InitProducerIdRequest) → id_record (step w (Ask caller client (InitProducerId r))).coordinator.transactions id ≡ Some u → OwesEach step w (Ask caller client (InitProducerId r)) id t o
   init_event caller client r after = by_refusal (part_refusal (rules_of w) (init_questions (rules_of w) caller r.transactional_id)) refl where
     e : Event
     e = Ask caller client (InitProducerId r)
@@ -376,23 +376,23 @@ module _ (w : World) (good : IsGood w) (id : List ℕ) (t u : Transaction) (o : 
     entries None target = refl
     entries (Some x) target = refl
 
-    by_id : (own : Option (List ℕ)) → (step w e).coordinator ≡ coordinator_for own w.coordinator w.node.max_txn_timeout r.timeout → OwesEach w e id t o
+    by_id : (own : Option (List ℕ)) → (step w e).coordinator ≡ coordinator_for own w.coordinator w.node.max_txn_timeout r.timeout → OwesEach step w e id t o
     by_id None same = absurd (still w.coordinator.transactions id t u o before ongoing (ap (λ (c : CoordinatorValue). id_record c.transactions id) (sym same) ∙ after) waits)
     by_id (Some own) same =
         let owes = init_owes w.coordinator id t o before ongoing own r.timeout w.node.max_txn_timeout u (ap (λ (c : CoordinatorValue). id_record c.transactions id) (sym same) ∙ after) waits in
         owes_all e (with_next_epoch t.pair) (with_next_epoch t.pair) _ (ap (λ (c : CoordinatorValue). c.warrants) same) owes.0 refl refl after owes.1 (entries (part_refusal (rules_of w) (init_questions (rules_of w) caller r.transactional_id)))
 
-    by_refusal : (x : Option Refusal) → part_refusal (rules_of w) (init_questions (rules_of w) caller r.transactional_id) ≡ x → OwesEach w e id t o
+    by_refusal : (x : Option Refusal) → part_refusal (rules_of w) (init_questions (rules_of w) caller r.transactional_id) ≡ x → OwesEach step w e id t o
     by_refusal x is = by_served x (ap (λ y. (left_by y).coordinator) is) where
-      by_served : (y : Option Refusal) → (step w e).coordinator ≡ (left_by y).coordinator → OwesEach w e id t o
+      by_served : (y : Option Refusal) → (step w e).coordinator ≡ (left_by y).coordinator → OwesEach step w e id t o
       by_served (Some y) same = unchanged e same after
       by_served None same = by_id r.transactional_id same
 
   -- an event of one move at most after which no more is owed
-  adds_none : (e : Event) (m : Move) → (step w e).coordinator ≡ (world_after_move s m).coordinator → length (world_after_move s m).coordinator.warrants ≤ length w.coordinator.warrants → id_record (step w e).coordinator.transactions id ≡ Some u → OwesEach w e id t o
+  adds_none : (e : Event) (m : Move) → (step w e).coordinator ≡ (world_after_move s m).coordinator → length (world_after_move s m).coordinator.warrants ≤ length w.coordinator.warrants → id_record (step w e).coordinator.transactions id ≡ Some u → OwesEach step w e id t o
   adds_none e m same few after = absurd (none_owed s good.sound m few id t u o before ongoing (ap (λ (c : CoordinatorValue). id_record c.transactions id) (sym same) ∙ after) waits)
 
-  add_event : (caller : Caller) (client : Option (List ℕ)) (r : AddPartitionsToTxnRequest) → id_record (step w (Ask caller client (AddPartitionsToTxn r))).coordinator.transactions id ≡ Some u → OwesEach w (Ask caller client (AddPartitionsToTxn r)) id t o
+  add_event : (caller : Caller) (client : Option (List ℕ)) (r : AddPartitionsToTxnRequest) → id_record (step w (Ask caller client (AddPartitionsToTxn r))).coordinator.transactions id ≡ Some u → OwesEach step w (Ask caller client (AddPartitionsToTxn r)) id t o
   add_event caller client r after = by_cut (is_cut caller r.transactional_id w.topics (rules_of w) r.topics) refl where
     pair : ProducerIdAndEpoch
     pair = record { producer = r.producer; epoch = r.epoch }
@@ -401,13 +401,13 @@ module _ (w : World) (good : IsGood w) (id : List ℕ) (t u : Transaction) (o : 
     few [] = omega arith
     few (p ∷ ps) = grown_few w.coordinator (with_partitions (p ∷ ps)) (open_transaction w.coordinator r.transactional_id pair w.moment)
 
-    by_cut : (b : Bool) → is_cut caller r.transactional_id w.topics (rules_of w) r.topics ≡ b → OwesEach w (Ask caller client (AddPartitionsToTxn r)) id t o
+    by_cut : (b : Bool) → is_cut caller r.transactional_id w.topics (rules_of w) r.topics ≡ b → OwesEach step w (Ask caller client (AddPartitionsToTxn r)) id t o
     by_cut b is = by_world b (ap (λ c. (cond c (cut_outcome w caller r) (added_outcome w r)).world.coordinator) is) where
-      by_world : (c : Bool) → (step w (Ask caller client (AddPartitionsToTxn r))).coordinator ≡ (cond c (cut_outcome w caller r) (added_outcome w r)).world.coordinator → OwesEach w (Ask caller client (AddPartitionsToTxn r)) id t o
+      by_world : (c : Bool) → (step w (Ask caller client (AddPartitionsToTxn r))).coordinator ≡ (cond c (cut_outcome w caller r) (added_outcome w r)).world.coordinator → OwesEach step w (Ask caller client (AddPartitionsToTxn r)) id t o
       by_world true same = unchanged _ same after
       by_world false same = adds_none _ (moves.AddPartitions r.transactional_id pair (partitions_of r.topics)) same (few (partitions_of r.topics)) after
 
-  group_event : (caller : Caller) (client : Option (List ℕ)) (r : AddOffsetsToTxnRequest) → id_record (step w (Ask caller client (AddOffsetsToTxn r))).coordinator.transactions id ≡ Some u → OwesEach w (Ask caller client (AddOffsetsToTxn r)) id t o
+  group_event : (caller : Caller) (client : Option (List ℕ)) (r : AddOffsetsToTxnRequest) → id_record (step w (Ask caller client (AddOffsetsToTxn r))).coordinator.transactions id ≡ Some u → OwesEach step w (Ask caller client (AddOffsetsToTxn r)) id t o
   group_event caller client r after = by_refusal (part_refusal (rules_of w) (add_offsets_questions caller r.transactional_id r.group)) refl where
     e : Event
     e = Ask caller client (AddOffsetsToTxn r)
@@ -418,15 +418,15 @@ module _ (w : World) (good : IsGood w) (id : List ℕ) (t u : Transaction) (o : 
     left_by : Option Refusal → World
     left_by x = (whole_outcome_by x w (λ code. replies.AddOffsetsToTxn (add_offsets_reply code)) (served_add_offsets w r)).world
 
-    by_refusal : (x : Option Refusal) → part_refusal (rules_of w) (add_offsets_questions caller r.transactional_id r.group) ≡ x → OwesEach w e id t o
+    by_refusal : (x : Option Refusal) → part_refusal (rules_of w) (add_offsets_questions caller r.transactional_id r.group) ≡ x → OwesEach step w e id t o
     by_refusal x is = by_served x (ap (λ y. (left_by y).coordinator) is) where
-      by_served : (y : Option Refusal) → (step w e).coordinator ≡ (left_by y).coordinator → OwesEach w e id t o
+      by_served : (y : Option Refusal) → (step w e).coordinator ≡ (left_by y).coordinator → OwesEach step w e id t o
       by_served (Some y) same = unchanged e same after
       by_served None same =
           adds_none e (moves.AddGroup r.transactional_id pair r.group) same
           (grown_few w.coordinator (with_group r.group) (open_transaction w.coordinator r.transactional_id pair w.moment)) after
 
-  event_owes : (e : Event) → id_record (step w e).coordinator.transactions id ≡ Some u → OwesEach w e id t o
+  event_owes : (e : Event) → id_record (step w e).coordinator.transactions id ≡ Some u → OwesEach step w e id t o
   event_owes (Ask caller client (Produce r)) after = unchanged _ refl after
   event_owes (Ask caller client (Fetch r)) after = unchanged _ refl after
   event_owes (Ask caller client (ListOffsets r)) after = unchanged _ refl after
@@ -454,8 +454,8 @@ module _ (w : World) (good : IsGood w) (id : List ℕ) (t u : Transaction) (o : 
 
 -- ---- the law
 
-pub prepared_owes : (w : World) → IsGood w → OwesPrepared w
+pub prepared_owes : (w : World) → IsGood w → OwesPrepared step w
 prepared_owes w good e id t o by = event_owes w good id t by.transaction o by.before by.ongoing by.waits e by.after
 
-pub owes_prepared : InReached OwesPrepared
+pub owes_prepared : OwesMarkers step
 owes_prepared s es = prepared_owes _ (good s es)

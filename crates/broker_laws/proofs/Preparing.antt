@@ -46,8 +46,8 @@ use Rattle.broker_world.specs.Whole.{whole_outcome_by}
 use Rattle.txn_handlers.specs.InitProducerId.{init_questions, init_answered, init_error, coordinator_for, reply_for, served_init}
 use Rattle.txn_handlers.specs.EndTxn.{end_reply, end_transition, served_end, end_questions, end_error, form_of, ending_id, ending_id_and_epoch, ending_outcome}
 use Rattle.broker_world.specs.Clock.{moment_after}
-use Rattle.api_dispatch.specs.Step.{step}
-use Rattle.broker_laws.specs.Laws.{InReached, Prepares, HasIdAndEpoch, Fences}
+use Rattle.api_dispatch.specs.Step.{step, reply_to}
+use Rattle.broker_laws.specs.Laws.{Prepares, HasIdAndEpoch, Fences, FencesProducers}
 use Rattle.broker_laws.proofs.Passing.{never_none}
 use Rattle.broker_laws.proofs.Owing.{recorded_expired}
 use Rattle.broker_laws.proofs.Reached.{IsGood, good}
@@ -180,7 +180,7 @@ due_open moment t due = ongoing_is t.state _ due
 
 -- ---- what prepares
 
-pub prepares : (w : World) → Prepares w
+pub prepares : Prepares step reply_to
 prepares w = record {
   ended = λ caller client r reply t found ongoing told none.
       let h = end_waits w r reply t found ongoing (part_refusal (rules_of w) (end_questions caller r)) told none in
@@ -310,7 +310,7 @@ ended_leaves w good r reply t form found again None told none has =
     ap (λ transition. id_record (apply_transition c transition).transactions (ending_id r)) (raising ∙ renews.puts) ∙ found_again c.transactions next (ending_id r) (own_test c.transactions (ending_id r) t found) in
     left (apply_transition c (end_transition c r)).transactions (ending_id r) (ending_id_and_epoch r) next here (λ h. not_after c (ending_id r) t.pair (good.sound.owned (ending_id r) t found) (h ∙ sym renews.own)) has
 
-fences_of : (w : World) → IsGood w → Fences w
+fences_of : (w : World) → IsGood w → Fences step reply_to w
 fences_of w good = record {
   begun = λ caller client r id pair new own had reply has.
       begun_leaves w good r id had.0 new own had.1 (part_refusal (rules_of w) (init_questions (rules_of w) caller r.transactional_id)) reply (subst (HasIdAndEpoch (step w (Ask caller client (InitProducerId r))) id) (sym had.2) has);
@@ -321,5 +321,5 @@ fences_of w good = record {
       ended_leaves w good (versions.Version5 body) reply t refl found again (part_refusal (rules_of w) (end_questions caller (versions.Version5 body))) told none has;
 }
 
-pub fences : InReached Fences
+pub fences : FencesProducers step reply_to
 fences s es = fences_of _ (good s es)

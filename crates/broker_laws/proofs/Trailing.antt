@@ -40,17 +40,17 @@ use Rattle.broker_laws.proofs.Cores.{in_cores}
 -- ---- a world
 
 -- what is prepared in a good world is completed where enough marker steps lead
-completed : (w : World) → IsGood w → (e : Event) (id : List ℕ) (t : Transaction) (o : TransactionResult) (later : List Event) → IsPreparedBy w e id t o → up_to_last (step w e).coordinator.warrants id ≤ count_of_mark_events later → IsCompleted w (world_after_events (step w e) later) e t o
+completed : (w : World) → IsGood w → (e : Event) (id : List ℕ) (t : Transaction) (o : TransactionResult) (later : List Event) → IsPreparedBy step w e id t o → up_to_last (step w e).coordinator.warrants id ≤ count_of_mark_events later → IsCompleted w (world_after_events (step w e) later) e t o
 completed w good e id t o later by enough = record {
   markers = prepared_completes w good e id t o later by enough;
   logs = prepared_ends w good e id t o later by enough;
   groups = prepared_decides w good e id t o later by enough;
 }
 
-complete_record : (w : World) → IsGood w → (e : Event) (id : List ℕ) (t : Transaction) (o : TransactionResult) (later : List Event) → IsPreparedBy w e id t o → up_to_last (step w e).coordinator.warrants id ≤ count_of_mark_events later → IsCompletedBy (step w e) later id o
+complete_record : (w : World) → IsGood w → (e : Event) (id : List ℕ) (t : Transaction) (o : TransactionResult) (later : List Event) → IsPreparedBy step w e id t o → up_to_last (step w e).coordinator.warrants id ≤ count_of_mark_events later → IsCompletedBy (step w e) later id o
 complete_record w good e id t o later by enough = ends later (step w e) (good_step w e good) id by.transaction o by.after by.waits enough
 
-completed_in : (core : CoreValue) (w : World) → IsGood w → (e : Event) (id : List ℕ) (t : Transaction) (o : TransactionResult) (later : List Event) → (core.down ≡ false → core.world ≡ world_after_events (step w e) later) → Each IsUnrefusedMark core.trail → IsPreparedBy w e id t o
+completed_in : (core : CoreValue) (w : World) → IsGood w → (e : Event) (id : List ℕ) (t : Transaction) (o : TransactionResult) (later : List Event) → (core.down ≡ false → core.world ≡ world_after_events (step w e) later) → Each IsUnrefusedMark core.trail → IsPreparedBy step w e id t o
     → up_to_last (step w e).coordinator.warrants id ≤ count_of_mark_events later → IsCompletedIn core w e later id t o
 completed_in core w good e id t o later leads unrefused by enough = record {
   world = λ up. subst (λ v. IsCompleted w v e t o) (sym (leads up)) (completed w good e id t o later by enough);
@@ -118,11 +118,11 @@ trail_tells core is before later x parts =
     record {
       ended = λ caller client r reply t event told none found ongoing.
           let e = Ask caller client (EndTxn r) in
-          subst (λ y. IsPreparedBy w y (ending_id r) t (ending_outcome r)) (sym event) ((prepares w).ended caller client r reply t found ongoing (sym (reply_is core is.history before later x parts e event) ∙ told) none);
+          subst (λ y. IsPreparedBy step w y (ending_id r) t (ending_outcome r)) (sym event) ((prepares w).ended caller client r reply t found ongoing (sym (reply_is core is.history before later x parts e event) ∙ told) none);
       taken_over = λ caller client r id t event own reply found ongoing.
           let e = Ask caller client (InitProducerId r) in
-          subst (λ y. IsPreparedBy w y id t Abort) (sym event) ((prepares w).taken_over caller client r id t own found ongoing (sym (reply_is core is.history before later x parts e event) ∙ reply));
-      timed_out = λ told id t event found due. subst (λ y. IsPreparedBy w y id t Abort) (sym event) ((prepares w).timed_out told id t found due);
+          subst (λ y. IsPreparedBy step w y id t Abort) (sym event) ((prepares w).taken_over caller client r id t own found ongoing (sym (reply_is core is.history before later x parts e event) ∙ reply));
+      timed_out = λ told id t event found due. subst (λ y. IsPreparedBy step w y id t Abort) (sym event) ((prepares w).timed_out told id t found due);
     }
 
 -- ---- a marker step that finds nothing to write

@@ -72,7 +72,7 @@ use Rattle.broker_world.specs.Clock.{moment_after}
 use Rattle.api_dispatch.specs.Step.{step, reply_to, world_after_events}
 use Rattle.request_handlers.specs.Core.{CoreValue, IsCore}
 use Rattle.broker_laws.specs.Entries.{entry_of, event_entry, entries_in, small_world}
-use Rattle.broker_laws.specs.Rules.{WorldRule, RefusalsRule}
+use Rattle.broker_laws.specs.Rules.{WorldRule, ReplyRule, RefusalsRule}
 use Rattle.broker_laws.specs.Moves.{moves_of, moves_of_all, count_of_mark_events}
 
 -- in each world that events reach from any settings
@@ -113,7 +113,7 @@ EventsAreMoves =
 -- ---- completion
 
 -- the id's transaction t is open, and the event prepares it
-pub record IsPreparedBy (w : World) (e : Event) (id : List ℕ) (t : Transaction)
+pub record IsPreparedBy (step : WorldRule) (w : World) (e : Event) (id : List ℕ) (t : Transaction)
     (outcome : TransactionResult) : Type 0 where
   pub before : id_record w.coordinator.transactions id ≡ Some t
   pub ongoing : t.state ≡ Ongoing
@@ -122,14 +122,14 @@ pub record IsPreparedBy (w : World) (e : Event) (id : List ℕ) (t : Transaction
   pub waits : transaction.state ≡ prepared_phase outcome
 
 -- what prepares an open transaction
-pub record Prepares (w : World) : Type 0 where
+pub record PreparesOpen (step : WorldRule) (reply_to : ReplyRule) (w : World) : Type 0 where
   -- an EndTxn that is answered no error, with the outcome that it names
   pub ended : (caller : Caller) (client : Option (List ℕ)) (r : EndTxnRequest) (reply : EndTxnReply)
       (t : Transaction)
       → id_record w.coordinator.transactions (ending_id r) ≡ Some t → t.state ≡ Ongoing
       → reply_to w (Ask caller client (EndTxn r)) ≡ replies.EndTxn reply
       → error_of reply ≡ codes.None
-      → IsPreparedBy w (Ask caller client (EndTxn r)) (ending_id r) t (ending_outcome r)
+      → IsPreparedBy step w (Ask caller client (EndTxn r)) (ending_id r) t (ending_outcome r)
   -- an InitProducerId of a producer that takes the id over, which is told to come again
   pub taken_over : (caller : Caller) (client : Option (List ℕ)) (r : InitProducerIdRequest)
       (id : List ℕ) (t : Transaction)
@@ -137,11 +137,16 @@ pub record Prepares (w : World) : Type 0 where
       → t.state ≡ Ongoing
       → reply_to w (Ask caller client (InitProducerId r))
       ≡ replies.InitProducerId (init_error codes.ConcurrentTransactions)
-      → IsPreparedBy w (Ask caller client (InitProducerId r)) id t Abort
+      → IsPreparedBy step w (Ask caller client (InitProducerId r)) id t Abort
   -- a tick after the end of its time
   pub timed_out : (told : ℕ) (id : List ℕ) (t : Transaction)
       → id_record w.coordinator.transactions id ≡ Some t
-      → is_due (moment_after w.moment told) t ≡ true → IsPreparedBy w (Tick told) id t Abort
+      → is_due (moment_after w.moment told) t ≡ true → IsPreparedBy step w (Tick told) id t Abort
+
+-- whatever the world is, an open transaction is prepared with the outcome that its EndTxn names,
+-- and to be aborted by an InitProducerId that takes it over and at the end of its time
+abbrev pub Prepares : WorldRule → ReplyRule → Type 0
+Prepares step reply_to = (w : World) → PreparesOpen step reply_to w
 
 -- the pair that the markers of a transaction carry: where an EndTxn up to version 4 ends it, its
 -- producer's own; where an EndTxn of version 5 does, or an InitProducerId or a tick aborts it, the
@@ -161,7 +166,7 @@ id_and_epoch_left w e own = marker_id_and_epoch e own
 -- An event that prepares a transaction changes no entry, and owes a marker of the outcome and of
 -- that pair to each partition and group that was added, after the markers that were pending.
 -- Besides them it owes those of other transactions, where a tick ends several.
-pub record OwesEach (w : World) (e : Event) (id : List ℕ) (t : Transaction)
+pub record OwesEach (step : WorldRule) (w : World) (e : Event) (id : List ℕ) (t : Transaction)
     (outcome : TransactionResult) : Type 0 where
   pub front : List PendingMarker
   pub back : List PendingMarker
@@ -173,10 +178,15 @@ pub record OwesEach (w : World) (e : Event) (id : List ℕ) (t : Transaction)
   pub pair : (u : Transaction) → id_record (step w e).coordinator.transactions id ≡ Some u
       → u.pair ≡ id_and_epoch_left w e t.pair
 
-abbrev pub OwesPrepared : World → Type 0
-OwesPrepared w =
+abbrev pub OwesPrepared : WorldRule → World → Type 0
+OwesPrepared step w =
     (e : Event) (id : List ℕ) (t : Transaction) (outcome : TransactionResult)
-    → IsPreparedBy w e id t outcome → OwesEach w e id t outcome
+    → IsPreparedBy step w e id t outcome → OwesEach step w e id t outcome
+
+-- in each world that events reach, what is prepared owes a marker to each partition and group, and
+-- has the next epoch where its producer didn't end it
+abbrev pub OwesMarkers : WorldRule → Type 0
+OwesMarkers step = InReached (OwesPrepared step)
 
 -- Where an event prepares a transaction, as many marker steps as markers then stand up to and
 -- including its last one write the outcome, with that pair, to each partition and group that was
@@ -185,7 +195,7 @@ OwesPrepared w =
 abbrev pub CompletesPrepared : World → Type 0
 CompletesPrepared w =
     (e : Event) (id : List ℕ) (t : Transaction) (outcome : TransactionResult) (after : List Event)
-    → IsPreparedBy w e id t outcome
+    → IsPreparedBy step w e id t outcome
     → up_to_last (step w e).coordinator.warrants id ≤ count_of_mark_events after
     → Each
     (λ target. IsEnded (kept_id_and_epoch target (marker_id_and_epoch e t.pair)) outcome
@@ -257,7 +267,7 @@ pub record IsDecided (producer : ℤ) (outcome : TransactionResult) (old new : L
 abbrev pub DecidesPrepared : World → Type 0
 DecidesPrepared w =
     (e : Event) (id : List ℕ) (t : Transaction) (outcome : TransactionResult) (after : List Event)
-    → IsPreparedBy w e id t outcome
+    → IsPreparedBy step w e id t outcome
     → up_to_last (step w e).coordinator.warrants id ≤ count_of_mark_events after
     → Each
     (λ g. IsDecided t.pair.producer outcome (group_of w.groups g).offsets
@@ -367,7 +377,7 @@ pub record IsRepeated (c : CoordinatorValue) (form : EndForm) (id : List ℕ)
   pub stays : end c form id pair outcome ≡ Stays codes.None
 
 -- what makes an id's record leave its pair
-pub record Fences (w : World) : Type 0 where
+pub record Fences (step : WorldRule) (reply_to : ReplyRule) (w : World) : Type 0 where
   -- an InitProducerId with the id that is answered a pair
   pub begun : (caller : Caller) (client : Option (List ℕ)) (r : InitProducerIdRequest) (id : List ℕ)
       (pair new : ProducerIdAndEpoch)
@@ -397,6 +407,11 @@ pub record Fences (w : World) : Type 0 where
       → HasIdAndEpoch (step w (Ask caller client (EndTxn (versions.Version5 body))))
       body.asked.transactional_id (id_and_epoch body.asked.producer body.asked.epoch)
       → ⊥
+
+-- in each world that events reach, a producer is fenced by a next one that is answered a pair, and
+-- where its transaction is aborted unasked
+abbrev pub FencesProducers : WorldRule → ReplyRule → Type 0
+FencesProducers step reply_to = InReached (Fences step reply_to)
 
 -- no batch of the pair passes Produce's check, no offset of it that of TxnOffsetCommit, and no call
 -- that comes with the pair is told that there is no error, but for an EndTxn of version 5 once more

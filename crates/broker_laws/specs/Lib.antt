@@ -15,3 +15,4 @@ pub mod MemberCodes
 pub mod Wrong
 pub mod WrongMembers
 pub mod WrongOffsets
+pub mod WrongEnds

@@ -79,7 +79,7 @@ pub record IsEndedAt (producer : ℤ) (outcome : TransactionResult) (old later :
 abbrev pub EndsPrepared : World → Type 0
 EndsPrepared w =
     (e : Event) (id : List ℕ) (t : Transaction) (outcome : TransactionResult) (after : List Event)
-    → IsPreparedBy w e id t outcome
+    → IsPreparedBy step w e id t outcome
     → up_to_last (step w e).coordinator.warrants id ≤ count_of_mark_events after
     → Each (IsEndedAt t.pair.producer outcome w (world_after_events (step w e) after)) t.partitions
 

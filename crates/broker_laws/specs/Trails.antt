@@ -88,18 +88,18 @@ pub record TellsOf (w : World) (x : Entry) : Type 0 where
       → x.event ≡ Ask caller client (EndTxn r) → x.reply ≡ replies.EndTxn reply
       → error_of reply ≡ codes.None
       → id_record w.coordinator.transactions (ending_id r) ≡ Some t → t.state ≡ Ongoing
-      → IsPreparedBy w x.event (ending_id r) t (ending_outcome r)
+      → IsPreparedBy step w x.event (ending_id r) t (ending_outcome r)
   -- an InitProducerId that was told to come again aborts it
   pub taken_over : (caller : Caller) (client : Option (List ℕ)) (r : InitProducerIdRequest)
       (id : List ℕ) (t : Transaction)
       → x.event ≡ Ask caller client (InitProducerId r) → r.transactional_id ≡ Some id
       → x.reply ≡ replies.InitProducerId (init_error codes.ConcurrentTransactions)
       → id_record w.coordinator.transactions id ≡ Some t → t.state ≡ Ongoing
-      → IsPreparedBy w x.event id t Abort
+      → IsPreparedBy step w x.event id t Abort
   -- and so does a tick after the end of its time
   pub timed_out : (told : ℕ) (id : List ℕ) (t : Transaction) → x.event ≡ Tick told
       → id_record w.coordinator.transactions id ≡ Some t
-      → is_due (moment_after w.moment told) t ≡ true → IsPreparedBy w x.event id t Abort
+      → is_due (moment_after w.moment told) t ≡ true → IsPreparedBy step w x.event id t Abort
 
 abbrev pub TrailTells : Type 0
 TrailTells =
@@ -113,7 +113,7 @@ CompletesOverATrail =
     (core : CoreValue) → IsCore core → (before later : List Entry) (x : Entry)
     → core.trail ≡ before ++ x ∷ later
     → (id : List ℕ) (t : Transaction) (outcome : TransactionResult)
-    → IsPreparedBy (world_after_entries core before) x.event id t outcome
+    → IsPreparedBy step (world_after_entries core before) x.event id t outcome
     → up_to_last (step (world_after_entries core before) x.event).coordinator.warrants id
     ≤ count_of_mark_events (events_of later)
     → IsCompletedIn core (world_after_entries core before) x.event (events_of later) id t outcome
@@ -124,7 +124,7 @@ CompletesBeforeIdle =
     (core : CoreValue) → IsCore core → (before between rest : List Entry) (x y : Entry)
     → core.trail ≡ before ++ x ∷ (between ++ y ∷ rest)
     → (id : List ℕ) (t : Transaction) (outcome : TransactionResult)
-    → IsPreparedBy (world_after_entries core before) x.event id t outcome
+    → IsPreparedBy step (world_after_entries core before) x.event id t outcome
     → y.event ≡ Mark → y.reply ≡ replies.Idle
     → IsCompletedIn core (world_after_entries core before) x.event (events_of (between ++ y ∷ rest))
     id t outcome
@@ -140,7 +140,7 @@ CompletesOverARun =
     → (before later rest : List Event) (e : Event) → es ≡ before ++ e ∷ (later ++ rest)
     → length rs ≡ length (before ++ e ∷ later)
     → (id : List ℕ) (t : Transaction) (outcome : TransactionResult)
-    → IsPreparedBy (world_after_events old.world before) e id t outcome
+    → IsPreparedBy step (world_after_events old.world before) e id t outcome
     → up_to_last (step (world_after_events old.world before) e).coordinator.warrants id
     ≤ count_of_mark_events later
     → IsCompletedIn new (world_after_events old.world before) e later id t outcome

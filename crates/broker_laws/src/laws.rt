@@ -5,13 +5,14 @@ ghost use Rattle.api_dispatch.specs.Step.{refusals_of, reply_to, step};
 ghost use Rattle.broker_world.specs.First.{first_world};
 ghost use Rattle.broker_world.specs.World.{World};
 ghost use Rattle.broker_laws.specs.Wrong.{first_for_everybody, first_without_acls, refusals_of_marks, step_committing_at_once, step_ending_early, step_going_back, step_removing_groups, step_with_retention, step_without_lapses};
+ghost use Rattle.broker_laws.specs.WrongEnds.{step_ending_nothing, step_fencing_nobody, step_keeping_epochs, step_owing_nothing, step_swapping_outcomes, step_taking_nothing_over, step_without_timeouts};
 ghost use Rattle.broker_laws.specs.WrongMembers.{reply_beating_for_anybody, reply_in_any_generation, reply_leaving_for_anybody, reply_letting_a_second_in, reply_telling_the_member, reply_unknown_for_full, step_keeping_generations, step_leaving_for_anybody, step_letting_a_second_in};
 ghost use Rattle.broker_laws.specs.Targets.{HasTargets};
 ghost use Rattle.broker_laws.specs.Laws.{InReached, InCores};
 ghost use Rattle.broker_laws.specs.Laws.{EntriesAreTheLog, IsMoved, EventsAreMoves};
-ghost use Rattle.broker_laws.specs.Laws.{Prepares, OwesPrepared, CompletesPrepared, CompletesWaiting, EndsComplete, MarksAreNotRefused};
+ghost use Rattle.broker_laws.specs.Laws.{Prepares, OwesMarkers, OwesPrepared, CompletesPrepared, CompletesWaiting, EndsComplete, MarksAreNotRefused};
 ghost use Rattle.broker_laws.specs.Laws.{DecidesPrepared, DecidesWaiting, GroupsGoOn};
-ghost use Rattle.broker_laws.specs.Laws.{Fences, FencedWriteNothing, NoDataAfterAGreaterMarker};
+ghost use Rattle.broker_laws.specs.Laws.{Fences, FencesProducers, FencedWriteNothing, NoDataAfterAGreaterMarker};
 ghost use Rattle.broker_laws.specs.LogEnds.{LogsGoOn, EndsPrepared, EndsWaiting};
 ghost use Rattle.broker_laws.specs.CommitAbort.{CommitsAreShown};
 ghost use Rattle.broker_laws.specs.FirstWorld.{FirstWorldIsTheSettings};
@@ -63,14 +64,20 @@ pub fn targets_exist()
 /// An open transaction is prepared for its end by an EndTxn that is answered no error, by an InitProducerId that takes its
 /// transactional id over, and by a tick after its timeout.
 pub fn prepares()
-    ensures { (w : World) → Prepares w }
+    ensures ends { Prepares step reply_to }
+    ensures as_named { ¬ Prepares step_swapping_outcomes reply_to }
+    ensures ended { ¬ Prepares step_ending_nothing reply_to }
+    ensures taken_over { ¬ Prepares step_taking_nothing_over reply_to }
+    ensures in_time { ¬ Prepares step_without_timeouts reply_to }
 {}
 
 /// Whatever prepares a transaction leaves a marker pending for each partition and group that was added: with the producer's own
 /// epoch where an EndTxn of up to version 4 ends it, and else with the epoch raised by one.
 pub fn owes_each()
-    ensures reached { InReached OwesPrepared }
-    ensures cores { InCores OwesPrepared }
+    ensures reached { OwesMarkers step }
+    ensures markers { ¬ OwesMarkers step_owing_nothing }
+    ensures epochs { ¬ OwesMarkers step_keeping_epochs }
+    ensures cores { InCores (OwesPrepared step) }
 {}
 
 /// A prepared transaction is completed at each partition and group that was added, by as many marks as markers are pending up to
@@ -160,8 +167,10 @@ pub fn completes_over_a_run()
 /// A transactional id leaves its producer id and epoch by each InitProducerId that is answered new ones, and by each event that
 /// aborts its open transaction unasked.
 pub fn fences()
-    ensures reached { InReached Fences }
-    ensures cores { InCores Fences }
+    ensures reached { FencesProducers step reply_to }
+    ensures by_time { ¬ FencesProducers step_keeping_epochs reply_to }
+    ensures by_the_next { ¬ FencesProducers step_fencing_nobody reply_to }
+    ensures cores { InCores (Fences step reply_to) }
 {}
 
 /// A producer whose transactional id has gone on to another producer id or epoch writes nothing more to any log or group, and is
