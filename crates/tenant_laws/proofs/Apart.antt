@@ -373,7 +373,7 @@ module _ (v w : World) (caller : Caller) (client : Option (List ℕ)) where
   refused (CreateAcls r) asks all = refusals_same v w (parts_of rw caller (CreateAcls r)) all
   refused (DeleteAcls r) asks all = refusals_same v w (parts_of rw caller (DeleteAcls r)) all
 
-pub replies_depend : RepliesDependOnGrantedParts
+pub replies_depend : RepliesDependOnGrantedParts reply_to
 replies_depend v w caller client request same = replied v w caller client request same
 
 pub same_grants : (v w : World) (qs : List Question) → SameVerdicts v w qs → SameGrants v w qs

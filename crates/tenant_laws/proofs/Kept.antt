@@ -23,13 +23,14 @@ use Rattle.txn_handlers.specs.AddOffsets.{add_offsets_questions, served_add_offs
 use Rattle.txn_handlers.specs.EndTxn.{served_end, end_questions}
 use Rattle.acl_handlers.specs.CreateAcls.{alter_questions, book_created}
 use Rattle.acl_handlers.specs.DeleteAcls.{book_deleted}
-use Rattle.api_dispatch.specs.Step.{request_outcome, with_event_counted, step, world_after_events}
+use Rattle.api_dispatch.specs.Step.{request_outcome, with_event_counted, step}
 use Rattle.api_laws.specs.Tenants.{SameOn}
 use Rattle.api_laws.proofs.Grouped.{groups_keep}
 use Rattle.txn_handlers.proofs.Adds.{add_keeps}
 use Rattle.api_laws.proofs.AclEdits.{refused_edit_nothing}
 use Rattle.api_dispatch.proofs.Wholes.{describe_keeps, find_keeps, offsets_keep}
 use Rattle.api_dispatch.specs.Questions.{parts_of, questions_of}
+use Rattle.tenant_laws.specs.Rules.{world_after}
 use Rattle.tenant_laws.specs.Laws.{NoPartIsGranted, NoQuestionIsGranted, AreUngranted, pending_markers_of, KeepsSettings, UngrantedStays}
 use Rattle.tenant_laws.proofs.Parts.{no_part_granted}
 use Rattle.tenant_laws.proofs.Settled.{whole_keeps, settings_kept}
@@ -134,15 +135,15 @@ settings_counted w caller request = let kept = settings_kept w caller request in
 pub by_questions : (w : World) (caller : Caller) (client : Option (List ℕ)) (request : Request) (kind : Kind) (name : List ℕ) → NoQuestionIsGranted w kind name (questions_of (rules_of w) caller request) → SameOn w (step w (Ask caller client request)) kind name
 by_questions w caller client request kind name none = same_counted w (request_outcome w caller request).world kind name (kept w caller request kind name (no_part_granted w kind name (parts_of (rules_of w) caller request) none))
 
-over_events : (w : World) (kind : Kind) (name : List ℕ) (events : List Event) → AreUngranted w kind name events → SameOn w (world_after_events w events) kind name
+over_events : (w : World) (kind : Kind) (name : List ℕ) (events : List Event) → AreUngranted step w kind name events → SameOn w (world_after step w events) kind name
 over_events w kind name [] none = same_self w kind name
 over_events w kind name (Ask caller client request ∷ es) none =
     let next : World = step w (Ask caller client request) in
-    same_then w next (world_after_events next es) kind name (by_questions w caller client request kind name none.0) (over_events next kind name es none.1)
+    same_then w next (world_after step next es) kind name (by_questions w caller client request kind name none.0) (over_events next kind name es none.1)
 over_events w kind name (Mark ∷ es) none = absurd none.0
 over_events w kind name (Tick told ∷ es) none = absurd none.0
 
-pub ungranted_stays : UngrantedStays
+pub ungranted_stays : UngrantedStays step
 ungranted_stays = record {
   by_parts = λ w caller client request kind name none. same_counted w (request_outcome w caller request).world kind name (kept w caller request kind name none);
   by_questions = by_questions;

@@ -26,3 +26,4 @@ pub mod Going
 pub mod Within
 pub mod Marked
 pub mod Unseen
+pub mod Wrong

@@ -19,6 +19,7 @@ use Rattle.broker_world.specs.Questions.{topic_refusal}
 use Rattle.group_handlers.specs.OffsetFetch.{fetched_offset}
 use Rattle.group_handlers.specs.OffsetFetch.{listed_offsets_from, listed_topic_of, listed_topics, offsets_of, fetched_outcome, offset_fetch_by}
 use Rattle.api_laws.specs.GroupLaws.{described_slots}
+use Rattle.api_dispatch.specs.Step.{reply_to}
 use Rattle.tenant_laws.specs.NullLists.{Place, places_of, has_offset, places_in, NullTellsOfAll}
 
 index_is : (r : Result (Option PartitionOffset) ErrorCode) (index : ℤ) → (fetched_offset r index).index ≡ index
@@ -131,7 +132,7 @@ module _ (es : List OffsetEvent) (stable : Bool) where
       by_grant true rest = right_after t.name (own t) (said ts) (all_right t.name (length t.partitions) 0) rest
       by_grant false rest = rest
 
-pub null_tells_of_all : NullTellsOfAll
+pub null_tells_of_all : NullTellsOfAll reply_to
 null_tells_of_all w caller client r null granted = record {
   topics = listed_topics (rules_of w) caller (offsets_of w r.group) r.require_stable w.topics;
   reply = ap (λ (o : Option Refusal). (offset_fetch_by o w caller r).reply) granted

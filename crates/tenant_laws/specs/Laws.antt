@@ -16,11 +16,12 @@ use Rattle.audit_trail.specs.declared.event.Event.{Event}
 use Rattle.audit_trail.specs.declared.event.Event.TheVariants.{Ask, Mark, Tick}
 use Rattle.txn_coordinator.specs.declared.marker.PendingMarker.{PendingMarker}
 use Rattle.broker_world.specs.World.{World, rules_of, topic_names}
-use Rattle.api_dispatch.specs.Step.{step, reply_to, refusals_of, world_after_events}
+use Rattle.api_dispatch.specs.Step.{step, reply_to, refusals_of}
 use Rattle.request_handlers.specs.Core.{CoreValue, entry_of, receipt_of}
 use Rattle.plain_broker.specs.Plainness.{is_about_bindings}
 use Rattle.api_laws.specs.Tenants.{SameOn, SameGranted}
 use Rattle.api_dispatch.specs.Questions.{parts_of, questions_of}
+use Rattle.tenant_laws.specs.Rules.{WorldRule, world_after}
 
 -- ---- what is told
 
@@ -107,9 +108,10 @@ IsUngranted w kind name Mark = ⊥
 IsUngranted w kind name (Tick told) = ⊥
 
 -- so is each of the events, by the book that is then in force
-abbrev pub AreUngranted : World → Kind → List ℕ → List Event → Type 0
-AreUngranted w kind name [] = Unit {0}
-AreUngranted w kind name (e ∷ es) = IsUngranted w kind name e × AreUngranted (step w e) kind name es
+abbrev pub AreUngranted : WorldRule → World → Kind → List ℕ → List Event → Type 0
+AreUngranted step w kind name [] = Unit {0}
+AreUngranted step w kind name (e ∷ es) =
+    IsUngranted w kind name e × AreUngranted step (step w e) kind name es
 
 -- the markers that the transactional id owes, in order
 abbrev pub pending_markers_of : List ℕ → List PendingMarker → List PendingMarker
@@ -123,8 +125,9 @@ pub record KeepsSettings (w new : World) : Type 0 where
   pub moment : new.moment ≡ w.moment
   pub names : topic_names new.topics ≡ topic_names w.topics
 
--- What a request leaves as it was: by its parts, and so by its questions.
-pub record UngrantedStays : Type 0 where
+-- a request leaves as it was whatever it isn't granted: each topic with its logs, each group, each
+-- transactional id, and the ACLs
+pub record UngrantedStays (step : WorldRule) : Type 0 where
   -- a topic with its logs, a group, a transactional id
   pub by_parts : (w : World) (caller : Caller) (client : Option (List ℕ)) (request : Request)
       (kind : Kind) (name : List ℕ)
@@ -135,7 +138,7 @@ pub record UngrantedStays : Type 0 where
       → NoQuestionIsGranted w kind name (questions_of (rules_of w) caller request)
       → SameOn w (step w (Ask caller client request)) kind name
   pub over_events : (w : World) (kind : Kind) (name : List ℕ) (events : List Event)
-      → AreUngranted w kind name events → SameOn w (world_after_events w events) kind name
+      → AreUngranted step w kind name events → SameOn w (world_after step w events) kind name
   -- what a transactional id owes
   pub owed : (w : World) (caller : Caller) (client : Option (List ℕ)) (request : Request)
       (id : List ℕ)

@@ -17,8 +17,8 @@ use Rattle.group_offsets.specs.Offsets.{offset_of, is_staged, fetch_result}
 use Rattle.broker_world.specs.World.{World, TopicValue, rules_of}
 use Rattle.group_handlers.specs.OffsetFetch.{group_question, fetch_reply, offsets_of}
 use Rattle.group_handlers.specs.OffsetFetch.{fetched_offset}
-use Rattle.api_dispatch.specs.Step.{reply_to}
 use Rattle.api_laws.specs.GroupLaws.{described_slots}
+use Rattle.tenant_laws.specs.Rules.{ReplyRule}
 
 -- a partition: its topic, and its index
 pub record Place : Type 0 where
@@ -41,8 +41,8 @@ abbrev pub places_in : Topic FetchedOffset → List Place
 places_in t = map (λ (p : FetchedOffset). record { topic = t.name; index = p.index }) t.partitions
 
 -- what is told
-pub record TellsOf (w : World) (caller : Caller) (client : Option (List ℕ)) (r : OffsetFetchRequest)
-    : Type 0 where
+pub record TellsOf (reply_to : ReplyRule) (w : World) (caller : Caller) (client : Option (List ℕ))
+    (r : OffsetFetchRequest) : Type 0 where
   pub topics : List (Topic FetchedOffset)
   pub reply : reply_to w (Ask caller client (OffsetFetch r)) ≡ fetch_reply codes.None topics
   -- of all partitions of the topics that may be described, in order and each once, exactly those
@@ -64,7 +64,9 @@ pub record TellsOf (w : World) (caller : Caller) (client : Option (List ℕ)) (r
       p.index)
       topics
 
-abbrev pub NullTellsOfAll : Type 0
-NullTellsOfAll = (w : World) (caller : Caller) (client : Option (List ℕ)) (r : OffsetFetchRequest)
+-- whatever the world is, an OffsetFetch with a null list of topics tells of each partition that may
+-- be described and has an offset, and of no other
+abbrev pub NullTellsOfAll : ReplyRule → Type 0
+NullTellsOfAll reply_to = (w : World) (caller : Caller) (client : Option (List ℕ)) (r : OffsetFetchRequest)
     → r.topics ≡ None → part_refusal (rules_of w) (group_question caller r.group ∷ []) ≡ None
-    → TellsOf w caller client r
+    → TellsOf reply_to w caller client r

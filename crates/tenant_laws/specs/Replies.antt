@@ -11,12 +11,12 @@ use Rattle.msg_admin.specs.declared.request.Request.TheVariants.{Metadata, Offse
 use Rattle.audit_trail.specs.declared.event.Event.TheVariants.{Ask}
 use Rattle.broker_world.specs.World.{World, TopicValue, rules_of}
 use Rattle.group_handlers.specs.OffsetFetch.{group_question}
-use Rattle.api_dispatch.specs.Step.{reply_to}
 use Rattle.request_handlers.specs.Core.{CoreValue, IsCore}
 use Rattle.api_laws.specs.Headline.{is_yes}
 use Rattle.api_laws.specs.Tenants.{SameOn}
 use Rattle.api_laws.specs.GroupLaws.{described_slots}
 use Rattle.api_dispatch.specs.Questions.{parts_of, questions_of}
+use Rattle.tenant_laws.specs.Rules.{ReplyRule}
 use Rattle.tenant_laws.specs.Laws.{SameVerdicts, SameTold, SameReceipt}
 use Rattle.plain_broker.specs.Exactly.{is_granted}
 use Rattle.plain_broker.specs.Plainness.{is_about_bindings}
@@ -86,8 +86,9 @@ pub record SameForReply (v w : World) (caller : Caller) (request : Request) : Ty
   -- where it is about the book of bindings: that it is the same
   pub bindings : is_about_bindings request ≡ true → v.book ≡ w.book
 
-abbrev pub RepliesDependOnGrantedParts : Type 0
-RepliesDependOnGrantedParts =
+-- whatever the worlds are, a request is answered the same in two that agree on what it is granted
+abbrev pub RepliesDependOnGrantedParts : ReplyRule → Type 0
+RepliesDependOnGrantedParts reply_to =
     (v w : World) (caller : Caller) (client : Option (List ℕ)) (request : Request)
     → SameForReply v w caller request
     → reply_to v (Ask caller client request) ≡ reply_to w (Ask caller client request)
