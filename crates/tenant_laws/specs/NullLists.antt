@@ -67,6 +67,7 @@ pub record TellsOf (reply_to : ReplyRule) (w : World) (caller : Caller) (client 
 -- whatever the world is, an OffsetFetch with a null list of topics tells of each partition that may
 -- be described and has an offset, and of no other
 abbrev pub NullTellsOfAll : ReplyRule → Type 0
-NullTellsOfAll reply_to = (w : World) (caller : Caller) (client : Option (List ℕ)) (r : OffsetFetchRequest)
+NullTellsOfAll reply_to =
+    (w : World) (caller : Caller) (client : Option (List ℕ)) (r : OffsetFetchRequest)
     → r.topics ≡ None → part_refusal (rules_of w) (group_question caller r.group ∷ []) ≡ None
     → TellsOf reply_to w caller client r
