@@ -109,7 +109,7 @@ given_out ids = record { transactions = []; given = ids; warrants = [] }
 abbrev narrow : List TopicValue → World
 narrow topics = world 10 ((97 ∷ []) ∷ []) [] topics no_transactions []
 
-told_for : {key number : ℕ} (w : World) (request : Request) → api_key request ≡ key → list_any (λ (error : ℤ). int_eq error (pos number)) (all_errors (reply_to w (Ask who None request))) ≡ true → IsToldFor key number
+told_for : {key number : ℕ} (w : World) (request : Request) → api_key request ≡ key → list_any (λ (error : ℤ). int_eq error (pos number)) (all_errors (reply_to w (Ask who None request))) ≡ true → IsToldFor reply_to key number
 told_for w request api told = record { world = w; caller = who; request = request; api = api; told = told }
 
 -- ---- Produce
@@ -148,55 +148,55 @@ gapped_batch = batch (168 ∷ 206 ∷ 2 ∷ 183 ∷ []) 0 (replicate 13 0 ++ 5 �
 abbrev pub other_batch : List ℕ
 other_batch = batch (184 ∷ 195 ∷ 78 ∷ 157 ∷ []) 16 (replicate 9 0 ++ 1 ∷ replicate 4 0)
 
-produces_2 : IsToldFor 0 2
+produces_2 : IsToldFor reply_to 0 2
 unfolding number_of bit_shift_by crc_after has_records is_valid first_fault records_at fixed_at whole_value sized_at nat_at int_at front_at many_at items_at after_count_at null_or after_null_count_at varint_at null_or_count null_count_at not_null required_at counted_at
 produces_2 = told_for (free there no_transactions []) (producing None (pos 1) (Some (0 ∷ []))) refl refl
 
-produces_3 : IsToldFor 0 3
+produces_3 : IsToldFor reply_to 0 3
 unfolding number_of
 produces_3 = told_for (free [] no_transactions []) (producing None (pos 1) None) refl refl
 
-produces_10 : IsToldFor 0 10
+produces_10 : IsToldFor reply_to 0 10
 unfolding number_of bit_shift_by crc_after has_records is_valid first_fault records_at fixed_at whole_value sized_at nat_at int_at front_at many_at items_at after_count_at null_or after_null_count_at varint_at null_or_count null_count_at not_null required_at counted_at
 produces_10 = told_for (narrow there) (producing None (pos 1) (Some plain_batch)) refl refl
 
-produces_21 : IsToldFor 0 21
+produces_21 : IsToldFor reply_to 0 21
 unfolding number_of
 produces_21 = told_for (free there no_transactions []) (producing None (pos 5) None) refl refl
 
-produces_29 : IsToldFor 0 29
+produces_29 : IsToldFor reply_to 0 29
 unfolding number_of
 produces_29 = told_for closed (producing None (pos 1) None) refl refl
 
-produces_32 : IsToldFor 0 32
+produces_32 : IsToldFor reply_to 0 32
 unfolding number_of bit_shift_by crc_after has_records is_valid first_fault records_at fixed_at whole_value sized_at nat_at int_at front_at many_at items_at after_count_at null_or after_null_count_at varint_at null_or_count null_count_at not_null required_at counted_at
 produces_32 = told_for (free there no_transactions []) (producing None (pos 1) (Some timed_batch)) refl refl
 
-produces_45 : IsToldFor 0 45
+produces_45 : IsToldFor reply_to 0 45
 unfolding number_of bit_shift_by crc_after has_records is_valid first_fault records_at fixed_at whole_value sized_at nat_at int_at front_at many_at items_at after_count_at null_or after_null_count_at varint_at null_or_count null_count_at not_null required_at counted_at
 produces_45 = told_for (free there (given_out (None ∷ [])) []) (producing None (pos 1) (Some gapped_batch)) refl refl
 
-produces_47 : IsToldFor 0 47
+produces_47 : IsToldFor reply_to 0 47
 unfolding number_of bit_shift_by crc_after has_records is_valid first_fault records_at fixed_at whole_value sized_at nat_at int_at front_at many_at items_at after_count_at null_or after_null_count_at varint_at null_or_count null_count_at not_null required_at counted_at
 produces_47 = told_for (free there (in_state Ongoing []) []) (producing (Some (120 ∷ [])) (pos 1) (Some other_batch)) refl refl
 
-produces_48 : IsToldFor 0 48
+produces_48 : IsToldFor reply_to 0 48
 unfolding number_of bit_shift_by crc_after has_records is_valid first_fault records_at fixed_at whole_value sized_at nat_at int_at front_at many_at items_at after_count_at null_or after_null_count_at varint_at null_or_count null_count_at not_null required_at counted_at
 produces_48 = told_for (free there (given_out (Some (120 ∷ []) ∷ [])) []) (producing None (pos 1) (Some first_batch)) refl refl
 
-produces_49 : IsToldFor 0 49
+produces_49 : IsToldFor reply_to 0 49
 unfolding number_of bit_shift_by crc_after has_records is_valid first_fault records_at fixed_at whole_value sized_at nat_at int_at front_at many_at items_at after_count_at null_or after_null_count_at varint_at null_or_count null_count_at not_null required_at counted_at
 produces_49 = told_for (free there no_transactions []) (producing None (pos 1) (Some first_batch)) refl refl
 
-produces_53 : IsToldFor 0 53
+produces_53 : IsToldFor reply_to 0 53
 unfolding number_of
 produces_53 = told_for closed (producing (Some (120 ∷ [])) (pos 1) None) refl refl
 
-produces_76 : IsToldFor 0 76
+produces_76 : IsToldFor reply_to 0 76
 unfolding number_of bit_shift_by crc_after has_records is_valid first_fault records_at fixed_at whole_value sized_at nat_at int_at front_at many_at items_at after_count_at null_or after_null_count_at varint_at null_or_count null_count_at not_null required_at counted_at
 produces_76 = told_for (free there no_transactions []) (producing None (pos 1) (Some packed_batch)) refl refl
 
-produces_87 : IsToldFor 0 87
+produces_87 : IsToldFor reply_to 0 87
 unfolding number_of
 produces_87 = told_for (free there no_transactions []) (producing None (pos 1) None) refl refl
 
@@ -205,15 +205,15 @@ produces_87 = told_for (free there no_transactions []) (producing None (pos 1) N
 abbrev fetching : ℤ → Request
 fetching offset = requests.Fetch (record { replica = negsuc 0; max_wait = pos 0; min_bytes = pos 0; max_bytes = pos 100; isolation = levels.ReadUncommitted; topics = record { name = 116 ∷ []; partitions = record { index = pos 0; offset = offset; max_bytes = pos 100 } ∷ [] } ∷ [] })
 
-fetch_1 : IsToldFor 1 1
+fetch_1 : IsToldFor reply_to 1 1
 unfolding number_of
 fetch_1 = told_for (free there no_transactions []) (fetching (pos 5)) refl refl
 
-fetch_3 : IsToldFor 1 3
+fetch_3 : IsToldFor reply_to 1 3
 unfolding number_of
 fetch_3 = told_for (free [] no_transactions []) (fetching (pos 0)) refl refl
 
-fetch_29 : IsToldFor 1 29
+fetch_29 : IsToldFor reply_to 1 29
 unfolding number_of
 fetch_29 = told_for closed (fetching (pos 0)) refl refl
 
@@ -222,15 +222,15 @@ fetch_29 = told_for closed (fetching (pos 0)) refl refl
 abbrev listing : ℤ → Request
 listing timestamp = requests.ListOffsets (record { replica = negsuc 0; isolation = levels.ReadUncommitted; topics = record { name = 116 ∷ []; partitions = record { index = pos 0; timestamp = timestamp } ∷ [] } ∷ [] })
 
-lists_3 : IsToldFor 2 3
+lists_3 : IsToldFor reply_to 2 3
 unfolding number_of
 lists_3 = told_for (free [] no_transactions []) (listing (negsuc 0)) refl refl
 
-lists_29 : IsToldFor 2 29
+lists_29 : IsToldFor reply_to 2 29
 unfolding number_of
 lists_29 = told_for closed (listing (negsuc 0)) refl refl
 
-lists_42 : IsToldFor 2 42
+lists_42 : IsToldFor reply_to 2 42
 unfolding number_of
 lists_42 = told_for (free there no_transactions []) (listing (pos 5)) refl refl
 
@@ -239,11 +239,11 @@ lists_42 = told_for (free there no_transactions []) (listing (pos 5)) refl refl
 abbrev describing : Request
 describing = requests.Metadata (record { topics = Some ((116 ∷ []) ∷ []) })
 
-metadata_3 : IsToldFor 3 3
+metadata_3 : IsToldFor reply_to 3 3
 unfolding number_of
 metadata_3 = told_for (free [] no_transactions []) (describing) refl refl
 
-metadata_29 : IsToldFor 3 29
+metadata_29 : IsToldFor reply_to 3 29
 unfolding number_of
 metadata_29 = told_for closed (describing) refl refl
 
@@ -252,27 +252,27 @@ metadata_29 = told_for closed (describing) refl refl
 abbrev committing : ℤ → List ℕ → Request
 committing generation member = requests.OffsetCommit (record { group = 103 ∷ []; generation = generation; member = member; retention = pos 0; topics = record { name = 116 ∷ []; partitions = record { index = pos 0; offset = pos 0; metadata = None } ∷ [] } ∷ [] })
 
-commit_3 : IsToldFor 8 3
+commit_3 : IsToldFor reply_to 8 3
 unfolding number_of
 commit_3 = told_for (free [] no_transactions []) (committing (pos 1) (109 ∷ [])) refl refl
 
-commit_22 : IsToldFor 8 22
+commit_22 : IsToldFor reply_to 8 22
 unfolding number_of
 commit_22 = told_for (free there no_transactions (joined_group (Some []) ∷ [])) (committing (pos 2) (109 ∷ [])) refl refl
 
-commit_25 : IsToldFor 8 25
+commit_25 : IsToldFor reply_to 8 25
 unfolding number_of
 commit_25 = told_for (free there no_transactions (joined_group (Some []) ∷ [])) (committing (pos 1) (120 ∷ [])) refl refl
 
-commit_27 : IsToldFor 8 27
+commit_27 : IsToldFor reply_to 8 27
 unfolding number_of
 commit_27 = told_for (free there no_transactions (joined_group None ∷ [])) (committing (pos 1) (109 ∷ [])) refl refl
 
-commit_29 : IsToldFor 8 29
+commit_29 : IsToldFor reply_to 8 29
 unfolding number_of
 commit_29 = told_for (granting (reads_group ∷ [])) (committing (pos 1) (109 ∷ [])) refl refl
 
-commit_30 : IsToldFor 8 30
+commit_30 : IsToldFor reply_to 8 30
 unfolding number_of
 commit_30 = told_for closed (committing (pos 1) (109 ∷ [])) refl refl
 
@@ -281,15 +281,15 @@ commit_30 = told_for closed (committing (pos 1) (109 ∷ [])) refl refl
 abbrev fetching_offsets : Request
 fetching_offsets = requests.OffsetFetch (record { group = 103 ∷ []; topics = Some (record { name = 116 ∷ []; partitions = pos 0 ∷ [] } ∷ []); require_stable = true })
 
-offsets_29 : IsToldFor 9 29
+offsets_29 : IsToldFor reply_to 9 29
 unfolding number_of
 offsets_29 = told_for (granting (reads_group ∷ [])) (fetching_offsets) refl refl
 
-offsets_30 : IsToldFor 9 30
+offsets_30 : IsToldFor reply_to 9 30
 unfolding number_of
 offsets_30 = told_for closed (fetching_offsets) refl refl
 
-offsets_88 : IsToldFor 9 88
+offsets_88 : IsToldFor reply_to 9 88
 unfolding number_of
 offsets_88 = told_for (free there no_transactions (staged_group ∷ [])) (fetching_offsets) refl refl
 
@@ -298,15 +298,15 @@ offsets_88 = told_for (free there no_transactions (staged_group ∷ [])) (fetchi
 abbrev finding : ℤ → Request
 finding key_type = requests.FindCoordinator (record { key = 103 ∷ []; key_type = key_type })
 
-finds_30 : IsToldFor 10 30
+finds_30 : IsToldFor reply_to 10 30
 unfolding number_of
 finds_30 = told_for closed (finding (pos 0)) refl refl
 
-finds_42 : IsToldFor 10 42
+finds_42 : IsToldFor reply_to 10 42
 unfolding number_of
 finds_42 = told_for (free [] no_transactions []) (finding (pos 2)) refl refl
 
-finds_53 : IsToldFor 10 53
+finds_53 : IsToldFor reply_to 10 53
 unfolding number_of
 finds_53 = told_for closed (finding (pos 1)) refl refl
 
@@ -315,27 +315,27 @@ finds_53 = told_for closed (finding (pos 1)) refl refl
 abbrev joining : List ℕ → ℤ → List ℕ → List ℕ → Request
 joining group timeout member protocol_type = requests.JoinGroup (record { group = group; session_timeout = timeout; rebalance_timeout = pos 0; member = member; protocol_type = protocol_type; protocols = record { name = []; metadata = [] } ∷ [] })
 
-joins_23 : IsToldFor 11 23
+joins_23 : IsToldFor reply_to 11 23
 unfolding number_of
 joins_23 = told_for (free [] no_transactions []) (joining (103 ∷ []) (pos 6000) [] []) refl refl
 
-joins_24 : IsToldFor 11 24
+joins_24 : IsToldFor reply_to 11 24
 unfolding number_of
 joins_24 = told_for (free [] no_transactions []) (joining [] (pos 6000) [] (99 ∷ [])) refl refl
 
-joins_25 : IsToldFor 11 25
+joins_25 : IsToldFor reply_to 11 25
 unfolding number_of
 joins_25 = told_for (free [] no_transactions (joined_group (Some []) ∷ [])) (joining (103 ∷ []) (pos 6000) (120 ∷ []) (99 ∷ [])) refl refl
 
-joins_26 : IsToldFor 11 26
+joins_26 : IsToldFor reply_to 11 26
 unfolding number_of
 joins_26 = told_for (free [] no_transactions []) (joining (103 ∷ []) (pos 0) [] (99 ∷ [])) refl refl
 
-joins_30 : IsToldFor 11 30
+joins_30 : IsToldFor reply_to 11 30
 unfolding number_of
 joins_30 = told_for closed (joining (103 ∷ []) (pos 6000) [] (99 ∷ [])) refl refl
 
-joins_81 : IsToldFor 11 81
+joins_81 : IsToldFor reply_to 11 81
 unfolding number_of
 joins_81 = told_for (free [] no_transactions (joined_group (Some []) ∷ [])) (joining (103 ∷ []) (pos 6000) [] (99 ∷ [])) refl refl
 
@@ -344,19 +344,19 @@ joins_81 = told_for (free [] no_transactions (joined_group (Some []) ∷ [])) (j
 abbrev beating : List ℕ → ℤ → List ℕ → Request
 beating group generation member = requests.Heartbeat (record { group = group; generation = generation; member = member })
 
-beats_22 : IsToldFor 12 22
+beats_22 : IsToldFor reply_to 12 22
 unfolding number_of
 beats_22 = told_for (free [] no_transactions (joined_group (Some []) ∷ [])) (beating (103 ∷ []) (pos 2) (109 ∷ [])) refl refl
 
-beats_24 : IsToldFor 12 24
+beats_24 : IsToldFor reply_to 12 24
 unfolding number_of
 beats_24 = told_for (free [] no_transactions []) (beating [] (pos 1) (109 ∷ [])) refl refl
 
-beats_25 : IsToldFor 12 25
+beats_25 : IsToldFor reply_to 12 25
 unfolding number_of
 beats_25 = told_for (free [] no_transactions (joined_group (Some []) ∷ [])) (beating (103 ∷ []) (pos 1) (120 ∷ [])) refl refl
 
-beats_30 : IsToldFor 12 30
+beats_30 : IsToldFor reply_to 12 30
 unfolding number_of
 beats_30 = told_for closed (beating (103 ∷ []) (pos 1) (109 ∷ [])) refl refl
 
@@ -365,15 +365,15 @@ beats_30 = told_for closed (beating (103 ∷ []) (pos 1) (109 ∷ [])) refl refl
 abbrev leaving : List ℕ → Request
 leaving group = requests.LeaveGroup (record { group = group; member = 109 ∷ [] })
 
-leaves_24 : IsToldFor 13 24
+leaves_24 : IsToldFor reply_to 13 24
 unfolding number_of
 leaves_24 = told_for (free [] no_transactions []) (leaving []) refl refl
 
-leaves_25 : IsToldFor 13 25
+leaves_25 : IsToldFor reply_to 13 25
 unfolding number_of
 leaves_25 = told_for (free [] no_transactions []) (leaving (103 ∷ [])) refl refl
 
-leaves_30 : IsToldFor 13 30
+leaves_30 : IsToldFor reply_to 13 30
 unfolding number_of
 leaves_30 = told_for closed (leaving (103 ∷ [])) refl refl
 
@@ -382,25 +382,25 @@ leaves_30 = told_for closed (leaving (103 ∷ [])) refl refl
 abbrev syncing : List ℕ → ℤ → List ℕ → Request
 syncing group generation member = requests.SyncGroup (record { group = group; generation = generation; member = member; assignments = [] })
 
-syncs_22 : IsToldFor 14 22
+syncs_22 : IsToldFor reply_to 14 22
 unfolding number_of
 syncs_22 = told_for (free [] no_transactions (joined_group (Some []) ∷ [])) (syncing (103 ∷ []) (pos 2) (109 ∷ [])) refl refl
 
-syncs_24 : IsToldFor 14 24
+syncs_24 : IsToldFor reply_to 14 24
 unfolding number_of
 syncs_24 = told_for (free [] no_transactions []) (syncing [] (pos 1) (109 ∷ [])) refl refl
 
-syncs_25 : IsToldFor 14 25
+syncs_25 : IsToldFor reply_to 14 25
 unfolding number_of
 syncs_25 = told_for (free [] no_transactions (joined_group (Some []) ∷ [])) (syncing (103 ∷ []) (pos 1) (120 ∷ [])) refl refl
 
-syncs_30 : IsToldFor 14 30
+syncs_30 : IsToldFor reply_to 14 30
 unfolding number_of
 syncs_30 = told_for closed (syncing (103 ∷ []) (pos 1) (109 ∷ [])) refl refl
 
 -- ---- SaslHandshake
 
-handshake_34 : IsToldFor 17 34
+handshake_34 : IsToldFor reply_to 17 34
 unfolding number_of
 handshake_34 = told_for (free [] no_transactions []) (requests.SaslHandshake (record { mechanism = [] })) refl refl
 
@@ -409,23 +409,23 @@ handshake_34 = told_for (free [] no_transactions []) (requests.SaslHandshake (re
 abbrev initializing : Option (List ℕ) → ℤ → Request
 initializing id timeout = requests.InitProducerId (record { transactional_id = id; timeout = timeout })
 
-inits_31 : IsToldFor 22 31
+inits_31 : IsToldFor reply_to 22 31
 unfolding number_of
 inits_31 = told_for closed (initializing None (pos 10)) refl refl
 
-inits_42 : IsToldFor 22 42
+inits_42 : IsToldFor reply_to 22 42
 unfolding number_of
 inits_42 = told_for (free [] no_transactions []) (initializing (Some []) (pos 10)) refl refl
 
-inits_50 : IsToldFor 22 50
+inits_50 : IsToldFor reply_to 22 50
 unfolding number_of
 inits_50 = told_for (free [] no_transactions []) (initializing (Some (120 ∷ [])) (pos 0)) refl refl
 
-inits_51 : IsToldFor 22 51
+inits_51 : IsToldFor reply_to 22 51
 unfolding number_of
 inits_51 = told_for (free [] (in_state Ongoing []) []) (initializing (Some (120 ∷ [])) (pos 10)) refl refl
 
-inits_53 : IsToldFor 22 53
+inits_53 : IsToldFor reply_to 22 53
 unfolding number_of
 inits_53 = told_for closed (initializing (Some (120 ∷ [])) (pos 10)) refl refl
 
@@ -434,35 +434,35 @@ inits_53 = told_for closed (initializing (Some (120 ∷ [])) (pos 10)) refl refl
 abbrev adding : List ℕ → ℤ → List ℤ → Request
 adding id epoch indices = requests.AddPartitionsToTxn (record { transactional_id = id; producer = pos 0; epoch = epoch; topics = record { name = 116 ∷ []; partitions = indices } ∷ [] })
 
-adds_3 : IsToldFor 24 3
+adds_3 : IsToldFor reply_to 24 3
 unfolding number_of
 adds_3 = told_for (free [] no_transactions []) (adding (120 ∷ []) (pos 0) (pos 0 ∷ [])) refl refl
 
-adds_29 : IsToldFor 24 29
+adds_29 : IsToldFor reply_to 24 29
 unfolding number_of
 adds_29 = told_for (granting (writes_id ∷ [])) (adding (120 ∷ []) (pos 0) (pos 0 ∷ [])) refl refl
 
-adds_42 : IsToldFor 24 42
+adds_42 : IsToldFor reply_to 24 42
 unfolding number_of
 adds_42 = told_for (free there no_transactions []) (adding [] (pos 0) (pos 0 ∷ [])) refl refl
 
-adds_47 : IsToldFor 24 47
+adds_47 : IsToldFor reply_to 24 47
 unfolding number_of
 adds_47 = told_for (free there (in_state Ongoing []) []) (adding (120 ∷ []) (pos 1) (pos 0 ∷ [])) refl refl
 
-adds_49 : IsToldFor 24 49
+adds_49 : IsToldFor reply_to 24 49
 unfolding number_of
 adds_49 = told_for (free there no_transactions []) (adding (120 ∷ []) (pos 0) (pos 0 ∷ [])) refl refl
 
-adds_51 : IsToldFor 24 51
+adds_51 : IsToldFor reply_to 24 51
 unfolding number_of
 adds_51 = told_for (free there (in_state PrepareCommit []) []) (adding (120 ∷ []) (pos 0) (pos 0 ∷ [])) refl refl
 
-adds_53 : IsToldFor 24 53
+adds_53 : IsToldFor reply_to 24 53
 unfolding number_of
 adds_53 = told_for closed (adding (120 ∷ []) (pos 0) (pos 0 ∷ [])) refl refl
 
-adds_55 : IsToldFor 24 55
+adds_55 : IsToldFor reply_to 24 55
 unfolding number_of
 adds_55 = told_for (free there no_transactions []) (adding (120 ∷ []) (pos 0) (pos 0 ∷ pos 7 ∷ [])) refl refl
 
@@ -471,27 +471,27 @@ adds_55 = told_for (free there no_transactions []) (adding (120 ∷ []) (pos 0) 
 abbrev adding_group : List ℕ → ℤ → Request
 adding_group id epoch = requests.AddOffsetsToTxn (record { transactional_id = id; producer = pos 0; epoch = epoch; group = 103 ∷ [] })
 
-groups_30 : IsToldFor 25 30
+groups_30 : IsToldFor reply_to 25 30
 unfolding number_of
 groups_30 = told_for (granting (writes_id ∷ [])) (adding_group (120 ∷ []) (pos 0)) refl refl
 
-groups_42 : IsToldFor 25 42
+groups_42 : IsToldFor reply_to 25 42
 unfolding number_of
 groups_42 = told_for (free [] no_transactions []) (adding_group [] (pos 0)) refl refl
 
-groups_47 : IsToldFor 25 47
+groups_47 : IsToldFor reply_to 25 47
 unfolding number_of
 groups_47 = told_for (free [] (in_state Ongoing []) []) (adding_group (120 ∷ []) (pos 1)) refl refl
 
-groups_49 : IsToldFor 25 49
+groups_49 : IsToldFor reply_to 25 49
 unfolding number_of
 groups_49 = told_for (free [] no_transactions []) (adding_group (120 ∷ []) (pos 0)) refl refl
 
-groups_51 : IsToldFor 25 51
+groups_51 : IsToldFor reply_to 25 51
 unfolding number_of
 groups_51 = told_for (free [] (in_state PrepareCommit []) []) (adding_group (120 ∷ []) (pos 0)) refl refl
 
-groups_53 : IsToldFor 25 53
+groups_53 : IsToldFor reply_to 25 53
 unfolding number_of
 groups_53 = told_for closed (adding_group (120 ∷ []) (pos 0)) refl refl
 
@@ -500,31 +500,31 @@ groups_53 = told_for closed (adding_group (120 ∷ []) (pos 0)) refl refl
 abbrev committing_with : List ℕ → ℤ → EndTxn
 committing_with id epoch = record { transactional_id = id; producer = pos 0; epoch = epoch; committed = true }
 
-ends_42 : IsToldFor 26 42
+ends_42 : IsToldFor reply_to 26 42
 unfolding number_of
 ends_42 = told_for (free [] no_transactions []) (requests.EndTxn (versions.Version0 (committing_with [] (pos 0)))) refl refl
 
-ends_47 : IsToldFor 26 47
+ends_47 : IsToldFor reply_to 26 47
 unfolding number_of
 ends_47 = told_for (free [] (in_state Ongoing []) []) (requests.EndTxn (versions.Version0 (committing_with (120 ∷ []) (pos 1)))) refl refl
 
-ends_48 : IsToldFor 26 48
+ends_48 : IsToldFor reply_to 26 48
 unfolding number_of
 ends_48 = told_for (free [] (in_state Empty []) []) (requests.EndTxn (versions.Version0 (committing_with (120 ∷ []) (pos 0)))) refl refl
 
-ends_49 : IsToldFor 26 49
+ends_49 : IsToldFor reply_to 26 49
 unfolding number_of
 ends_49 = told_for (free [] no_transactions []) (requests.EndTxn (versions.Version0 (committing_with (120 ∷ []) (pos 0)))) refl refl
 
-ends_51 : IsToldFor 26 51
+ends_51 : IsToldFor reply_to 26 51
 unfolding number_of
 ends_51 = told_for (free [] (in_state PrepareCommit []) []) (requests.EndTxn (versions.Version0 (committing_with (120 ∷ []) (pos 0)))) refl refl
 
-ends_53 : IsToldFor 26 53
+ends_53 : IsToldFor reply_to 26 53
 unfolding number_of
 ends_53 = told_for closed (requests.EndTxn (versions.Version0 (committing_with (120 ∷ []) (pos 0)))) refl refl
 
-ends_90 : IsToldFor 26 90
+ends_90 : IsToldFor reply_to 26 90
 unfolding number_of
 ends_90 = told_for (free [] (in_state Ongoing []) []) (requests.EndTxn (versions.Version2 (committing_with (120 ∷ []) (pos 1)))) refl refl
 
@@ -533,39 +533,39 @@ ends_90 = told_for (free [] (in_state Ongoing []) []) (requests.EndTxn (versions
 abbrev staging : ℤ → ℤ → List ℕ → Request
 staging epoch generation member = requests.TxnOffsetCommit (record { transactional_id = 120 ∷ []; group = 103 ∷ []; producer = pos 0; epoch = epoch; generation = generation; member = member; instance = None; topics = record { name = 116 ∷ []; partitions = record { index = pos 0; offset = pos 0; leader_epoch = pos 0; metadata = None } ∷ [] } ∷ [] })
 
-stages_3 : IsToldFor 28 3
+stages_3 : IsToldFor reply_to 28 3
 unfolding number_of
 stages_3 = told_for (free [] no_transactions []) (staging (pos 0) (pos 1) (109 ∷ [])) refl refl
 
-stages_22 : IsToldFor 28 22
+stages_22 : IsToldFor reply_to 28 22
 unfolding number_of
 stages_22 = told_for (free there (in_state Ongoing ((103 ∷ []) ∷ [])) (joined_group (Some []) ∷ [])) (staging (pos 0) (pos 2) (109 ∷ [])) refl refl
 
-stages_25 : IsToldFor 28 25
+stages_25 : IsToldFor reply_to 28 25
 unfolding number_of
 stages_25 = told_for (free there (in_state Ongoing ((103 ∷ []) ∷ [])) (joined_group (Some []) ∷ [])) (staging (pos 0) (pos 1) (120 ∷ [])) refl refl
 
-stages_29 : IsToldFor 28 29
+stages_29 : IsToldFor reply_to 28 29
 unfolding number_of
 stages_29 = told_for (granting (writes_id ∷ reads_group ∷ [])) (staging (pos 0) (pos 1) (109 ∷ [])) refl refl
 
-stages_30 : IsToldFor 28 30
+stages_30 : IsToldFor reply_to 28 30
 unfolding number_of
 stages_30 = told_for (granting (writes_id ∷ [])) (staging (pos 0) (pos 1) (109 ∷ [])) refl refl
 
-stages_47 : IsToldFor 28 47
+stages_47 : IsToldFor reply_to 28 47
 unfolding number_of
 stages_47 = told_for (free there (in_state Ongoing ((103 ∷ []) ∷ [])) (joined_group (Some []) ∷ [])) (staging (pos 1) (pos 1) (109 ∷ [])) refl refl
 
-stages_48 : IsToldFor 28 48
+stages_48 : IsToldFor reply_to 28 48
 unfolding number_of
 stages_48 = told_for (free there (in_state Empty []) (joined_group (Some []) ∷ [])) (staging (pos 0) (pos 1) (109 ∷ [])) refl refl
 
-stages_49 : IsToldFor 28 49
+stages_49 : IsToldFor reply_to 28 49
 unfolding number_of
 stages_49 = told_for (free there no_transactions []) (staging (pos 0) (pos 1) (109 ∷ [])) refl refl
 
-stages_53 : IsToldFor 28 53
+stages_53 : IsToldFor reply_to 28 53
 unfolding number_of
 stages_53 = told_for closed (staging (pos 0) (pos 1) (109 ∷ [])) refl refl
 
@@ -575,11 +575,11 @@ stages_53 = told_for closed (staging (pos 0) (pos 1) (109 ∷ [])) refl refl
 abbrev no_filter : FilterEntry
 no_filter = record { kind = pos 99; name = None; pattern = pos 1; principal = None; host = None; operation = pos 1; permission = pos 1 }
 
-describes_31 : IsToldFor 29 31
+describes_31 : IsToldFor reply_to 29 31
 unfolding number_of
 describes_31 = told_for closed (requests.DescribeAcls (record { filter = no_filter })) refl refl
 
-describes_42 : IsToldFor 29 42
+describes_42 : IsToldFor reply_to 29 42
 unfolding number_of kind_code kind_at pattern_code pattern_at operation_code operation_at permission_code permission_at filter_pattern_code filter_pattern_at
 describes_42 = told_for (free [] no_transactions []) (requests.DescribeAcls (record { filter = no_filter })) refl refl
 
@@ -588,56 +588,56 @@ describes_42 = told_for (free [] no_transactions []) (requests.DescribeAcls (rec
 abbrev no_binding : BindingEntry
 no_binding = record { kind = pos 99; name = []; pattern = pos 3; principal = []; host = []; operation = pos 3; permission = pos 3 }
 
-creates_31 : IsToldFor 30 31
+creates_31 : IsToldFor reply_to 30 31
 unfolding number_of
 creates_31 = told_for closed (requests.CreateAcls (record { creations = no_binding ∷ [] })) refl refl
 
-creates_42 : IsToldFor 30 42
+creates_42 : IsToldFor reply_to 30 42
 unfolding number_of kind_code kind_at pattern_code pattern_at operation_code operation_at permission_code permission_at filter_pattern_code filter_pattern_at
 creates_42 = told_for (free [] no_transactions []) (requests.CreateAcls (record { creations = no_binding ∷ [] })) refl refl
 
 -- ---- DeleteAcls
 
-deletes_31 : IsToldFor 31 31
+deletes_31 : IsToldFor reply_to 31 31
 unfolding number_of
 deletes_31 = told_for closed (requests.DeleteAcls (record { filters = no_filter ∷ [] })) refl refl
 
-deletes_42 : IsToldFor 31 42
+deletes_42 : IsToldFor reply_to 31 42
 unfolding number_of kind_code kind_at pattern_code pattern_at operation_code operation_at permission_code permission_at filter_pattern_code filter_pattern_at
 deletes_42 = told_for (free [] no_transactions []) (requests.DeleteAcls (record { filters = no_filter ∷ [] })) refl refl
 
 -- ---- SaslAuthenticate
 
-authenticate_34 : IsToldFor 36 34
+authenticate_34 : IsToldFor reply_to 36 34
 unfolding number_of
 authenticate_34 = told_for (free [] no_transactions []) (requests.SaslAuthenticate (record { auth = [] })) refl refl
 
 -- ---- any request
 
-of_id : (id : Option (List ℕ)) → AllByRecursion (IsToldFor 0) (id_errors id)
+of_id : (id : Option (List ℕ)) → AllByRecursion (IsToldFor reply_to 0) (id_errors id)
 of_id None = tt
 of_id (Some id) = (produces_53, tt)
 
-of_names : (topics : Option (List (List ℕ))) → AllByRecursion (IsToldFor 3) (metadata_errors topics)
+of_names : (topics : Option (List (List ℕ))) → AllByRecursion (IsToldFor reply_to 3) (metadata_errors topics)
 of_names None = tt
 of_names (Some names) = (metadata_3, (metadata_29, tt))
 
-of_offsets : (topics : Option (List (Topic ℤ))) → AllByRecursion (IsToldFor 9) (named_errors topics)
+of_offsets : (topics : Option (List (Topic ℤ))) → AllByRecursion (IsToldFor reply_to 9) (named_errors topics)
 of_offsets None = tt
 of_offsets (Some ts) = (offsets_29, tt)
 
-of_key : (key_type : ℤ) → AllByRecursion (IsToldFor 10) (coordinator_errors key_type)
+of_key : (key_type : ℤ) → AllByRecursion (IsToldFor reply_to 10) (coordinator_errors key_type)
 of_key key_type = by_tests (int_eq key_type (pos 0)) (int_eq key_type (pos 1)) where
-  by_tests : (a b : Bool) → AllByRecursion (IsToldFor 10) (cond a (30 ∷ []) (cond b (53 ∷ []) (42 ∷ [])))
+  by_tests : (a b : Bool) → AllByRecursion (IsToldFor reply_to 10) (cond a (30 ∷ []) (cond b (53 ∷ []) (42 ∷ [])))
   by_tests true b = (finds_30, tt)
   by_tests false true = (finds_53, tt)
   by_tests false false = (finds_42, tt)
 
-of_init : (id : Option (List ℕ)) → AllByRecursion (IsToldFor 22) (init_errors id)
+of_init : (id : Option (List ℕ)) → AllByRecursion (IsToldFor reply_to 22) (init_errors id)
 of_init None = (inits_31, tt)
 of_init (Some id) = (inits_42, (inits_50, (inits_51, (inits_53, tt))))
 
-of_version : (r : EndTxnRequest) → AllByRecursion (IsToldFor 26) (epoch_error r ∷ [])
+of_version : (r : EndTxnRequest) → AllByRecursion (IsToldFor reply_to 26) (epoch_error r ∷ [])
 of_version (versions.Version0 r) = (ends_47, tt)
 of_version (versions.Version1 r) = (ends_47, tt)
 of_version (versions.Version2 r) = (ends_90, tt)
@@ -645,7 +645,7 @@ of_version (versions.Version3 r) = (ends_90, tt)
 of_version (versions.Version4 r) = (ends_90, tt)
 of_version (versions.Version5 r) = (ends_90, tt)
 
-pub errors_are_answered : ErrorsAreAnswered
+pub errors_are_answered : ErrorsAreAnswered reply_to
 errors_are_answered (requests.Produce r) = (produces_2, (produces_3, (produces_10, (produces_21, (produces_29, (produces_32, (produces_45, (produces_47, (produces_48, (produces_49, (produces_76, (produces_87, of_id r.transactional_id))))))))))))
 errors_are_answered (requests.Fetch r) = (fetch_1, (fetch_3, (fetch_29, tt)))
 errors_are_answered (requests.ListOffsets r) = (lists_3, (lists_29, (lists_42, tt)))

@@ -21,7 +21,7 @@ use Rattle.acl_binding.specs.WireNumbers.{kind_code, pattern_code, operation_cod
 use Rattle.acl_binding.specs.Binding.{same_binding}
 use Rattle.acl_binding.specs.Book.{number_of, AreDistinct}
 use Rattle.acl_binding.specs.Filter.{matches, matching_bindings}
-use Rattle.acl_handlers.specs.DescribeAcls.{same_resource, described_acl, described_resource, first_of_each, described_resources}
+use Rattle.acl_handlers.specs.DescribeAcls.{same_resource, described_acl, described_resource, first_of_each, described_resources, describe_acls_reply}
 use Rattle.acl_handlers.specs.DeleteAcls.{entry_of_binding}
 use Rattle.api_laws.specs.DescribeLaws.{described_entry, described_entries, same_entry, same_group, DescribesEach}
 
@@ -308,7 +308,7 @@ distinct (e ∷ es) f apart = by_match (matches f e.binding) (absent e.binding e
   by_match true none rest = (none, rest)
   by_match false none rest = rest
 
-pub describes_each : DescribesEach
+pub describes_each : DescribesEach describe_acls_reply
 describes_each = record {
   each = λ book f. told_all (matching_bindings book.entries f);
   once = λ book f is. IsDistinct-IsPermutation same_entry flips _ _ (told_all (matching_bindings book.entries f)) (distinct book.entries f is.distinct);

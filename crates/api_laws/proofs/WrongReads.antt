@@ -1,5 +1,13 @@
 -- Wrong answers and refusals are refuted, each in a worked case.
 use Rattle.std.proofs.Common.{◌≡◌, ℕ, ℤ, pos, negsuc, true, false, List, [], ◌∷◌, length, Option, Some, None, refl, codes as bytes, ap}
+use Rattle.std.specs.List.{list_any, IsDistinct}
+use Rattle.std.specs.Ordering.{int_eq}
+use Rattle.std.proofs.lemmas.List.Sorted.{length_permutation}
+use Rattle.acl_binding.specs.declared.question.Caller.{Caller}
+use Rattle.acl_binding.specs.declared.filter.Filter.{Filter}
+use Rattle.acl_binding.specs.declared.filter.FilterPattern.TheVariants as filter_patterns
+use Rattle.acl_binding.specs.Book.{BookValue}
+use Rattle.audit_trail.specs.declared.event.Event.TheVariants.{Ask}
 use Rattle.acl_binding.specs.declared.words.Kind.TheVariants as kinds
 use Rattle.acl_binding.specs.declared.words.Operation.TheVariants as operations
 use Rattle.acl_binding.specs.declared.words.Pattern.TheVariants as patterns
@@ -32,8 +40,11 @@ use Rattle.api_laws.specs.DataLaws.{ListsEnds, FetchesRuns}
 use Rattle.api_laws.specs.RefusedRows.{RefusalsByTable}
 use Rattle.api_laws.specs.BareAnswers.{RefusalsTellNothing}
 use Rattle.api_laws.specs.ErrorTable.{ErrorsByTable}
+use Rattle.api_laws.specs.ErrorCases.{api_key, ErrorsAreAnswered}
+use Rattle.api_laws.specs.ToldErrors.{all_errors}
+use Rattle.api_laws.specs.DescribeLaws.{DescribesEach}
 use Rattle.api_laws.specs.AclLaws.{RefusedEditNothing}
-use Rattle.api_laws.specs.Wrong.{topics_unasked, topics_left_out, refusals_of_no_topic, first_refused_topic, listing_the_end, listing_the_last, serving_stable_as_high, serving_from_the_start, refusals_without_bindings, first_refusal_of, reply_with_acls, reply_with_ends, reply_ids_as_groups, reply_unfenced, creating_unasked, deleting_unasked}
+use Rattle.api_laws.specs.Wrong.{topics_unasked, topics_left_out, refusals_of_no_topic, first_refused_topic, listing_the_end, listing_the_last, serving_stable_as_high, serving_from_the_start, refusals_without_bindings, first_refusal_of, reply_with_acls, reply_with_ends, reply_ids_as_groups, reply_unfenced, creating_unasked, deleting_unasked, describing_one_resource, describing_each_alone, reply_beating_anyway}
 use Rattle.api_laws.proofs.Wrong.{w, root, ann, batch, any_entry}
 
 abbrev pub a : List ℕ
@@ -153,3 +164,54 @@ not_creating_unasked law = let clash : ◌≡◌ {A = ℕ} 0 1 = ap (λ (rs : Li
 
 pub not_deleting_unasked : ¬ RefusedEditNothing create_acls_outcome deleting_unasked
 not_deleting_unasked law = let clash : ◌≡◌ {A = ℕ} 0 1 = ap (λ (rs : List Refusal). length rs) (law.delete w ann (record { filters = [] }) _ refl).refusals in cc
+
+-- ---- a Heartbeat (12) is told ILLEGAL_GENERATION (22) to some caller
+
+abbrev IsToldBeating : Request → World → Caller → Type 0
+IsToldBeating request v caller = list_any (λ (error : ℤ). int_eq error (pos 22)) (all_errors (reply_beating_anyway v (Ask caller None request))) ≡ true
+
+no_beat : (request : Request) (v : World) (caller : Caller) → api_key request ≡ 12 → IsToldBeating request v caller → ⊥
+unfolding number_of
+no_beat (requests.Heartbeat r) v caller api told = let clash : false ≡ true = told in cc
+no_beat requests.ApiVersions v caller api told = let clash : ◌≡◌ {A = ℕ} 18 12 = api in cc
+no_beat (requests.Produce r) v caller api told = let clash : ◌≡◌ {A = ℕ} 0 12 = api in cc
+no_beat (requests.Fetch r) v caller api told = let clash : ◌≡◌ {A = ℕ} 1 12 = api in cc
+no_beat (requests.ListOffsets r) v caller api told = let clash : ◌≡◌ {A = ℕ} 2 12 = api in cc
+no_beat (requests.Metadata r) v caller api told = let clash : ◌≡◌ {A = ℕ} 3 12 = api in cc
+no_beat (requests.OffsetCommit r) v caller api told = let clash : ◌≡◌ {A = ℕ} 8 12 = api in cc
+no_beat (requests.OffsetFetch r) v caller api told = let clash : ◌≡◌ {A = ℕ} 9 12 = api in cc
+no_beat (requests.FindCoordinator r) v caller api told = let clash : ◌≡◌ {A = ℕ} 10 12 = api in cc
+no_beat (requests.JoinGroup r) v caller api told = let clash : ◌≡◌ {A = ℕ} 11 12 = api in cc
+no_beat (requests.LeaveGroup r) v caller api told = let clash : ◌≡◌ {A = ℕ} 13 12 = api in cc
+no_beat (requests.SyncGroup r) v caller api told = let clash : ◌≡◌ {A = ℕ} 14 12 = api in cc
+no_beat (requests.SaslHandshake r) v caller api told = let clash : ◌≡◌ {A = ℕ} 17 12 = api in cc
+no_beat (requests.InitProducerId r) v caller api told = let clash : ◌≡◌ {A = ℕ} 22 12 = api in cc
+no_beat (requests.AddPartitionsToTxn r) v caller api told = let clash : ◌≡◌ {A = ℕ} 24 12 = api in cc
+no_beat (requests.AddOffsetsToTxn r) v caller api told = let clash : ◌≡◌ {A = ℕ} 25 12 = api in cc
+no_beat (requests.EndTxn r) v caller api told = let clash : ◌≡◌ {A = ℕ} 26 12 = api in cc
+no_beat (requests.TxnOffsetCommit r) v caller api told = let clash : ◌≡◌ {A = ℕ} 28 12 = api in cc
+no_beat (requests.DescribeAcls r) v caller api told = let clash : ◌≡◌ {A = ℕ} 29 12 = api in cc
+no_beat (requests.CreateAcls r) v caller api told = let clash : ◌≡◌ {A = ℕ} 30 12 = api in cc
+no_beat (requests.DeleteAcls r) v caller api told = let clash : ◌≡◌ {A = ℕ} 31 12 = api in cc
+no_beat (requests.SaslAuthenticate r) v caller api told = let clash : ◌≡◌ {A = ℕ} 36 12 = api in cc
+
+pub not_beating_anyway : ¬ ErrorsAreAnswered reply_beating_anyway
+not_beating_anyway law =
+    let beaten = (law (requests.Heartbeat (record { group = a; generation = pos 0; member = a }))).0 in
+    no_beat beaten.request beaten.world beaten.caller beaten.api beaten.told
+
+-- ---- a book of three bindings: two of the topic `a`, and one of the cluster
+
+abbrev three : BookValue
+three = record { entries = record { number = 1; binding = denies_ann } ∷ record { number = 2; binding = record denies_ann { operation = operations.Write } } ∷ record { number = 3; binding = record denies_ann { kind = kinds.Cluster; name = bytes "kafka-cluster" } } ∷ []; next = 4 }
+
+abbrev every : Filter
+every = record { kind = None; name = None; pattern = filter_patterns.Any; principal = None; host = None; operation = None; permission = None }
+
+pub not_one_resource : ¬ DescribesEach describing_one_resource
+unfolding kind_code pattern_code operation_code permission_code
+not_one_resource law = let clash : ◌≡◌ {A = ℕ} 2 3 = length_permutation _ _ (law.each three every) in cc
+
+pub not_each_alone : ¬ DescribesEach describing_each_alone
+unfolding IsDistinct kind_code pattern_code operation_code permission_code
+not_each_alone law = let clash : true ≡ false = (law.apart three every).0.0 in cc

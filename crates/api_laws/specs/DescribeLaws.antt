@@ -1,21 +1,25 @@
 -- What a DescribeAcls tells, in the subject's words: each binding of the book that its filter
 -- picks, once, in groups by kind, name and pattern.
-use Rattle.std.specs.Prelude.{◌≢◌, Bool, ◌&&◌, List, [], map, flat_map, IsPermutation, Some}
+use Rattle.std.specs.Prelude.{◌≢◌, Bool, ◌&&◌, List, [], map, flat_map, IsPermutation, Option, Some}
 use Rattle.std.specs.Ordering.{int_eq}
 use Rattle.std.specs.List.{IsDistinct, AllByRecursion}
 use Rattle.std.specs.Str.{bytes_eq}
 use Rattle.msg_acl.specs.declared.entries.BindingEntry.{BindingEntry}
+use Rattle.msg_acl.specs.declared.describe_acls.DescribeAclsReply.{DescribeAclsReply}
 use Rattle.msg_acl.specs.declared.describe_acls.DescribedAcl.{DescribedAcl}
 use Rattle.msg_acl.specs.declared.describe_acls.DescribedResource.{DescribedResource}
 use Rattle.acl_binding.specs.declared.filter.Filter.{Filter}
 use Rattle.acl_binding.specs.Book.{BookValue, IsBook}
 use Rattle.acl_binding.specs.Filter.{matching_bindings}
-use Rattle.acl_handlers.specs.DescribeAcls.{describe_acls_reply}
 use Rattle.acl_handlers.specs.DeleteAcls.{entry_of_binding}
 
+-- what a filter is answered
+abbrev pub DescribeRule : Type 0
+DescribeRule = BookValue → Option Filter → DescribeAclsReply
+
 -- the groups that a filter is answered with
-abbrev pub groups_of : BookValue → Filter → List DescribedResource
-groups_of book f = (describe_acls_reply book (Some f)).resources
+abbrev pub groups_of : DescribeRule → BookValue → Filter → List DescribedResource
+groups_of describe_acls_reply book f = (describe_acls_reply book (Some f)).resources
 
 -- one of a group's bindings, whole
 abbrev pub described_entry : DescribedResource → DescribedAcl → BindingEntry
@@ -45,15 +49,18 @@ same_entry a b = int_eq a.kind b.kind && (bytes_eq a.name b.name && (int_eq a.pa
 abbrev pub same_group : DescribedResource → DescribedResource → Bool
 same_group r s = int_eq r.kind s.kind && (int_eq r.pattern s.pattern && bytes_eq r.name s.name)
 
-pub record DescribesEach : Type 0 where
+-- each binding that the filter picks is told, once, in groups by kind, name and pattern
+pub record DescribesEach (describe_acls_reply : DescribeRule) : Type 0 where
   -- what is told is what the filter picks, each as often, in some order
   pub each : (book : BookValue) (f : Filter)
       → IsPermutation (map entry_of_binding (matching_bindings book.entries f))
-      (described_entries (groups_of book f))
+      (described_entries (groups_of describe_acls_reply book f))
   -- no binding is told twice
   pub once : (book : BookValue) (f : Filter) → IsBook book
-      → IsDistinct same_entry (described_entries (groups_of book f))
+      → IsDistinct same_entry (described_entries (groups_of describe_acls_reply book f))
   -- no two groups have one kind, name and pattern
-  pub apart : (book : BookValue) (f : Filter) → IsDistinct same_group (groups_of book f)
+  pub apart : (book : BookValue) (f : Filter)
+      → IsDistinct same_group (groups_of describe_acls_reply book f)
   -- no group is without a binding
-  pub some : (book : BookValue) (f : Filter) → AllByRecursion (λ r. r.acls ≢ []) (groups_of book f)
+  pub some : (book : BookValue) (f : Filter)
+      → AllByRecursion (λ r. r.acls ≢ []) (groups_of describe_acls_reply book f)

@@ -7,7 +7,7 @@ use Rattle.msg_admin.specs.declared.request.Request.{Request}
 use Rattle.msg_admin.specs.declared.request.Request.TheVariants as requests
 use Rattle.audit_trail.specs.declared.event.Event.TheVariants.{Ask}
 use Rattle.broker_world.specs.World.{World}
-use Rattle.api_dispatch.specs.Step.{reply_to}
+use Rattle.api_laws.specs.AskedTable.{AnswerRule}
 use Rattle.api_laws.specs.ToldErrors.{all_errors}
 use Rattle.api_laws.specs.ErrorTable.{errors_of}
 
@@ -37,7 +37,7 @@ api_key (requests.DeleteAcls r) = 31
 api_key (requests.SaslAuthenticate r) = 36
 
 -- somebody is told the number for a request of this api in some world
-pub record IsToldFor (key number : ℕ) : Type 0 where
+pub record IsToldFor (reply_to : AnswerRule) (key number : ℕ) : Type 0 where
   pub world : World
   pub caller : Caller
   pub request : Request
@@ -47,6 +47,7 @@ pub record IsToldFor (key number : ℕ) : Type 0 where
       ≡ true
 
 -- each number that the table lists for a request is told for one of the same api
-abbrev pub ErrorsAreAnswered : Type 0
-ErrorsAreAnswered =
-    (request : Request) → AllByRecursion (IsToldFor (api_key request)) (errors_of request)
+abbrev pub ErrorsAreAnswered : AnswerRule → Type 0
+ErrorsAreAnswered reply_to =
+    (request : Request)
+    → AllByRecursion (IsToldFor reply_to (api_key request)) (errors_of request)

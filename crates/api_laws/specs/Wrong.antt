@@ -5,7 +5,7 @@ use Rattle.acl_binding.specs.declared.words.Operation.TheVariants as operations
 use Rattle.acl_binding.specs.Verdict.{question_of}
 use Rattle.acl_binding.specs.declared.question.Caller.{Caller}
 use Rattle.acl_binding.specs.Book.{empty_book}
-use Rattle.std.specs.Prelude.{◌+◌, ◌-◌, ◌-ℤ◌, List, Result, Ok, Err, pos, [], length, take, Option, Some, None, negsuc, ◌+ℤ◌, Bool, ◌∷◌, ◌++◌, map, is_some, is_none, ℕ, ℤ, drop, if◌then◌else◌, codes as codes_of}
+use Rattle.std.specs.Prelude.{◌+◌, ◌-◌, ◌-ℤ◌, List, Result, Ok, Err, pos, [], length, take, Option, Some, None, negsuc, ◌+ℤ◌, Bool, ◌∷◌, ◌++◌, flat_map, map, is_some, is_none, ℕ, ℤ, drop, if◌then◌else◌, codes as codes_of}
 use Rattle.std.proofs.Common.{zero-le}
 use Rattle.acl_binding.specs.declared.words.Kind.{Kind}
 use Rattle.acl_binding.specs.declared.words.Kind.TheVariants as kinds
@@ -36,6 +36,7 @@ use Rattle.std.specs.List.{filter}
 use Rattle.std.specs.Str.{bytes_eq}
 use Rattle.authorizer.specs.Asking.{part_refusal}
 use Rattle.msg_acl.specs.declared.entries.BindingEntry.{BindingEntry}
+use Rattle.msg_acl.specs.declared.describe_acls.DescribedAcl.{DescribedAcl}
 use Rattle.msg_acl.specs.declared.describe_acls.DescribedResource.{DescribedResource}
 use Rattle.msg_txn.specs.declared.add_partitions.AddPartitionsToTxnRequest.{AddPartitionsToTxnRequest}
 use Rattle.msg_txn.specs.declared.add_partitions.AddedPartition.{AddedPartition}
@@ -60,7 +61,7 @@ use Rattle.txn_handlers.specs.AddPartitions.{add_questions, add_partitions_outco
 use Rattle.txn_handlers.specs.EndTxn.{ending_id, end_txn_outcome}
 use Rattle.txn_handlers.specs.AddOffsets.{add_offsets_outcome}
 use Rattle.txn_handlers.specs.TxnOffsetCommit.{txn_offset_commit_outcome}
-use Rattle.acl_handlers.specs.DescribeAcls.{describe_acls_outcome}
+use Rattle.acl_handlers.specs.DescribeAcls.{describe_acls_reply, describe_acls_outcome}
 use Rattle.acl_handlers.specs.CreateAcls.{create_acls_outcome}
 use Rattle.acl_handlers.specs.DeleteAcls.{delete_acls_outcome}
 use Rattle.api_dispatch.specs.Step.{outcome, reply_to, refusals_of, world_after_events}
@@ -72,6 +73,7 @@ use Rattle.api_laws.specs.Runs.{RunRule}
 use Rattle.api_laws.specs.RefusedRows.{RefusalsRule}
 use Rattle.api_laws.specs.AskedTable.{AnswerRule}
 use Rattle.api_laws.specs.AclLaws.{CreateRule, DeleteRule, DescribeAclsRule}
+use Rattle.api_laws.specs.DescribeLaws.{DescribeRule}
 use Rattle.api_laws.specs.ProducerLaws.{InitRule}
 use Rattle.api_laws.specs.TxnLaws.{AddRule, EndRule}
 use Rattle.api_laws.specs.KeptOut.{StepRule}
@@ -312,6 +314,12 @@ tell_unfenced reply = reply
 abbrev pub reply_unfenced : AnswerRule
 reply_unfenced w e = tell_unfenced (reply_to w e)
 
+-- each Heartbeat is told no error, whoever sends it
+abbrev pub reply_beating_anyway : AnswerRule
+reply_beating_anyway w (Ask caller client (requests.Heartbeat r)) =
+    replies.Heartbeat (record { throttle = pos 0; error = codes.None })
+reply_beating_anyway w e = reply_to w e
+
 -- ---- the one node
 
 abbrev pub led_by_nobody : PartitionInfo → PartitionInfo
@@ -390,6 +398,21 @@ creating_for_topics_there w caller r =
           (λ (e : BindingEntry). is_some (find_topic w.topics e.name))
           r.creations;
     })
+
+-- the first resource is told alone
+abbrev pub describing_one_resource : DescribeRule
+describing_one_resource book filter =
+    let right = describe_acls_reply book filter in
+    record right { resources = take 1 right.resources }
+
+abbrev pub each_alone : DescribedResource → List DescribedResource
+each_alone r = map (λ (a : DescribedAcl). record r { acls = a ∷ [] }) r.acls
+
+-- each binding is told as a resource of its own
+abbrev pub describing_each_alone : DescribeRule
+describing_each_alone book filter =
+    let right = describe_acls_reply book filter in
+    record right { resources = flat_map each_alone right.resources }
 
 abbrev pub tell_resources_there : World → Reply → Reply
 tell_resources_there w (replies.DescribeAcls reply) =
