@@ -31,7 +31,8 @@ is_by_parts request = false
 abbrev pub IsError : ℤ → Type 0
 IsError error = error ≡ pos 0 → ⊥
 
--- a request that is told an error changes nothing
+-- a request that is told one error for all changes nothing, and neither does one of which each part
+-- is told an error; but with CONCURRENT_TRANSACTIONS an open transaction may have been aborted
 pub record ErrorsChangeNothing (outcome : StepRule) : Type 0 where
   -- told another error than 0, one of them leaves the world as it was
   pub whole : (w : World) (caller : Caller) (client : Option (List ℕ)) (request : Request)

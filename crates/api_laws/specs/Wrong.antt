@@ -389,7 +389,7 @@ creating_topics w caller r =
       };
     }
 
--- a CreateAcls is told only about topics that are there
+-- a CreateAcls creates bindings of those topics alone that are there
 abbrev pub creating_for_topics_there : CreateRule
 creating_for_topics_there w caller r =
     create_acls_outcome w caller
@@ -424,7 +424,7 @@ tell_resources_there w (replies.DescribeAcls reply) =
     })
 tell_resources_there w reply = reply
 
--- a DescribeAcls tells only about topics that are there
+-- a DescribeAcls tells bindings of those topics alone that are there
 abbrev pub describing_topics_there : DescribeAclsRule
 describing_topics_there w caller r =
     let right = describe_acls_outcome w caller r in
