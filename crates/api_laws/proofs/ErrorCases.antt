@@ -118,7 +118,7 @@ abbrev producing : Option (List ℕ) → ℤ → Option (List ℕ) → Request
 producing id acks records = requests.Produce (record { transactional_id = id; acks = acks; timeout = pos 0; topics = record { name = 116 ∷ []; partitions = record { index = pos 0; records = records } ∷ [] } ∷ [] })
 
 -- a batch with one record, under these attributes and of this producer, and the crc of what follows
-abbrev batch : List ℕ → ℕ → List ℕ → List ℕ
+abbrev pub batch : List ℕ → ℕ → List ℕ → List ℕ
 batch crc attributes producer = replicate 11 0 ++ (56 ∷ replicate 4 0 ++ (2 ∷ crc ++ (0 ∷ attributes ∷ replicate 20 0 ++ (producer ++ (0 ∷ 0 ∷ 0 ∷ 1 ∷ 12 ∷ 0 ∷ 0 ∷ 0 ∷ 1 ∷ 1 ∷ 0 ∷ [])))))
 
 abbrev no_producer : List ℕ

@@ -8,7 +8,7 @@ use Rattle.record_batch.specs.declared.transaction_result.TransactionResult.{Tra
 use Rattle.record_batch.specs.BatchHeader.{is_control, is_transactional}
 use Rattle.record_batch.specs.Batch.{BatchData, IsBatch, IsMarked, next_offset}
 use Rattle.producer_state.specs.Sequences.{has_producer_id}
-use Rattle.partition_log.specs.Log.{IsGapless, end_of, is_transactional_data, first_marker, transaction_outcome, is_open, open_bases, lesser_of, least_of, or_else}
+use Rattle.partition_log.specs.Log.{last_stable_offset, IsGapless, end_of, is_transactional_data, first_marker, transaction_outcome, is_open, open_bases, lesser_of, least_of, or_else}
 use Rattle.partition_log.proofs.Numbers.{IsLowest, lowest_here, lowest_there}
 use Rattle.api_laws.specs.LastStable.{IsUnended, HasUnendedAt, LastStableIsExact}
 
@@ -139,7 +139,7 @@ unended_at log offset h o = record {
 
 -- ---- the law
 
-pub last_stable : LastStableIsExact
+pub last_stable : LastStableIsExact last_stable_offset
 last_stable log h = record {
   below = λ before after b parts is.
       subst (λ l. or_else (least_of (open_bases l)) (end_of log) ≤ℤ b.header.base_offset) (sym parts) (lowest before b after (stands_open before after b (subst (IsGapless (pos 0)) parts h.gapless) is) (end_of log));

@@ -29,9 +29,18 @@ use Rattle.api_laws.specs.Acceptance.{IsNextOf, IsRightlyAnswered, AcceptsNothin
 use Rattle.api_laws.specs.Repeats.{LeavesGap, LastFiveRepeat}
 use Rattle.api_laws.specs.CheckedLogs.{LogsHoldCheckedBatches, OffsetsCountRecords}
 use Rattle.api_laws.specs.ProducerLaws.{HoldsOnce}
-use Rattle.api_laws.specs.Wrong.{topics_kept, topics_with_repeats, answering_without_error, batch_under_any_acks, batch_of_any_size, producing_nothing, producing_for_all_replicas, judging_repeats_as_next, judging_gaps_as_next, world_of_headers, world_of_repeats, world_from_offset_one}
+use Rattle.api_laws.specs.Wrong.{topics_kept, topics_with_repeats, answering_without_error, batch_under_any_acks, batch_of_any_size, producing_nothing, producing_for_all_replicas, judging_repeats_as_next, judging_gaps_as_next, world_of_headers, world_of_repeats, world_from_offset_one, stable_at_the_end, stable_at_the_last}
+use Rattle.std.specs.Prelude.{replicate, FitsSigned}
+use Rattle.std.specs.Int.{w64, int_wrap}
+use Rattle.std.proofs.Common.{ℤ, subst, sym}
+use Rattle.std.proofs.lemmas.List.Elements.{All-nil, All-cons}
+use Rattle.std.proofs.lemmas.Int.{SFits-int_wrap}
+use Rattle.record_batch.specs.Batch.{HasOffsets}
+use Rattle.partition_log.specs.Log.{IsLog}
+use Rattle.api_laws.specs.LastStable.{HasUnendedAt, LastStableIsExact}
+use Rattle.api_laws.proofs.CheckedLogs.{logs_hold_checked_batches}
 use Rattle.api_laws.proofs.OnlyProper.{accepts_nothing_else}
-use Rattle.api_laws.proofs.ErrorCases.{plain_batch, first_batch}
+use Rattle.api_laws.proofs.ErrorCases.{batch as sent_bytes, plain_batch, first_batch}
 use Rattle.api_laws.proofs.Wrong.{w, root, batch}
 use Rattle.api_laws.proofs.WrongReads.{a}
 
@@ -201,3 +210,36 @@ not_from_offset_one law = let clash : pos 1 ≡ pos 0 = law settings events a (p
 pub not_of_headers : ¬ LogsHoldCheckedBatches world_of_headers
 unfolding bit_shift_by crc_after has_records is_valid first_fault records_at fixed_at whole_value sized_at nat_at int_at front_at many_at items_at after_count_at null_or after_null_count_at varint_at null_or_count null_count_at not_null required_at counted_at last_sequence next_sequence int_written
 not_of_headers law = let clash : true ≡ false = ap is_some (law settings events a (pos 0) _ [] [] _ refl refl refl).faultless in cc
+
+-- ---- a log of one batch, of a transaction of `x` that is open
+
+abbrev open_events : List Event
+open_events =
+    Ask root None (requests.InitProducerId (record { transactional_id = Some (bytes "x"); timeout = pos 1000 }))
+    ∷ Ask root None (requests.AddPartitionsToTxn (record { transactional_id = bytes "x"; producer = pos 0; epoch = pos 0; topics = record { name = a; partitions = pos 0 ∷ [] } ∷ [] }))
+    ∷ Ask root None (requests.Produce (record (produces (sent_bytes (74 ∷ 207 ∷ 67 ∷ 99 ∷ []) 16 (replicate 14 0))) { transactional_id = Some (bytes "x") })) ∷ []
+
+abbrev open_batch : BatchData
+open_batch = at_front (log_at (world_after_events (first_world settings) open_events).topics a (pos 0))
+
+fits : (n : ℤ) → n ≡ int_wrap w64 n → FitsSigned w64 n
+fits n is = subst (FitsSigned w64) (sym is) (SFits-int_wrap w64 n)
+
+is_log : IsLog (open_batch ∷ [])
+unfolding at_front bit_shift_by crc_after has_records is_valid first_fault records_at fixed_at whole_value sized_at nat_at int_at front_at many_at items_at after_count_at null_or after_null_count_at varint_at null_or_count null_count_at not_null required_at counted_at last_sequence next_sequence int_written int_wrap
+is_log = record {
+  gapless = ((logs_hold_checked_batches settings open_events a (pos 0) (open_batch ∷ []) [] [] open_batch refl refl refl).batch (fits (pos 0) refl), refl, tt);
+  offsets = All-cons HasOffsets open_batch [] (fits (pos 1) refl) (All-nil HasOffsets);
+}
+
+pub not_stable_at_the_end : ¬ LastStableIsExact stable_at_the_end
+unfolding at_front bit_shift_by crc_after has_records is_valid first_fault records_at fixed_at whole_value sized_at nat_at int_at front_at many_at items_at after_count_at null_or after_null_count_at varint_at null_or_count null_count_at not_null required_at counted_at last_sequence next_sequence int_written
+not_stable_at_the_end law =
+    let low : pos 1 ≤ℤ pos 0 = (law (open_batch ∷ []) is_log).below [] [] open_batch refl (record { transactional = refl; no_marker = refl; unended = tt }) in
+    omega (arith, ints, low)
+
+pub not_stable_at_the_last : ¬ LastStableIsExact stable_at_the_last
+not_stable_at_the_last law = by (law [] (record { gapless = tt; offsets = All-nil HasOffsets })).reached where
+  by : (negsuc 0 ≡ pos 0) ⊎ HasUnendedAt [] (negsuc 0) → ⊥
+  by (inl is) = let clash : negsuc 0 ≡ pos 0 = is in cc
+  by (inr is) = not_last is.before is.batch is.after is.parts

@@ -4,7 +4,7 @@ use Rattle.std.specs.Prelude.{◌≡◌, ◌⊎◌, ◌≤ℤ◌, ℤ, true, fal
 use Rattle.std.specs.List.{AllByRecursion}
 use Rattle.record_batch.specs.BatchHeader.{is_control, is_transactional}
 use Rattle.record_batch.specs.Batch.{BatchData}
-use Rattle.partition_log.specs.Log.{IsLog, end_of, last_stable_offset}
+use Rattle.partition_log.specs.Log.{IsLog, end_of}
 
 -- records of a transaction that no control batch of its producer has ended
 pub record IsUnended (b : BatchData) (after : List BatchData) : Type 0 where
@@ -30,5 +30,12 @@ pub record IsLastStable (log : List BatchData) (offset : ℤ) : Type 0 where
       → IsUnended b after → offset ≤ℤ b.header.base_offset
   pub reached : (offset ≡ end_of log) ⊎ HasUnendedAt log offset
 
-abbrev pub LastStableIsExact : Type 0
-LastStableIsExact = (log : List BatchData) → IsLog log → IsLastStable log (last_stable_offset log)
+-- the last stable offset of a log
+abbrev pub OffsetRule : Type 0
+OffsetRule = List BatchData → ℤ
+
+-- no batch of an open transaction stands below a log's last stable offset, and one stands at it, or
+-- it is the log's end
+abbrev pub LastStableIsExact : OffsetRule → Type 0
+LastStableIsExact last_stable_offset =
+    (log : List BatchData) → IsLog log → IsLastStable log (last_stable_offset log)

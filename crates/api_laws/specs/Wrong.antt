@@ -51,7 +51,7 @@ use Rattle.record_batch.specs.Batch.{BatchData}
 use Rattle.producer_state.specs.declared.judgment.Judgment.{Judgment}
 use Rattle.producer_state.specs.declared.judgment.Judgment.TheVariants.{Next, Repeat, Refused}
 use Rattle.producer_state.specs.Sequences.{judgment_of}
-use Rattle.partition_log.specs.Log.{at_end}
+use Rattle.partition_log.specs.Log.{at_end, end_of, last_stable_offset}
 use Rattle.data_handlers.specs.Judged.{batch_to_append}
 use Rattle.data_handlers.specs.Produce.{produce_answer, produce_outcome}
 use Rattle.group_handlers.specs.Members.{join_group_outcome}
@@ -83,6 +83,7 @@ use Rattle.api_laws.specs.GroupLaws.{OffsetFetchRule, JoinRule}
 use Rattle.api_laws.specs.StagingLaws.{AddOffsetsRule, StageRule}
 use Rattle.api_laws.specs.Framing.{ResponseRule}
 use Rattle.api_laws.specs.Numbers.{CodeRule}
+use Rattle.api_laws.specs.LastStable.{OffsetRule}
 use Rattle.api_laws.specs.Longest.{ServeRule}
 use Rattle.api_laws.specs.FetchSizes.{FetchRule}
 
@@ -191,6 +192,16 @@ serving_stable_as_high level topics budget name p =
 abbrev pub serving_from_the_start : ServedRule
 serving_from_the_start level topics budget name p =
     served_at level topics budget name (record p { offset = pos 0 })
+
+-- ---- the last stable offset
+
+-- the log's end, whatever transactions are open
+abbrev pub stable_at_the_end : OffsetRule
+stable_at_the_end log = end_of log
+
+-- the offset before the last stable one
+abbrev pub stable_at_the_last : OffsetRule
+stable_at_the_last log = last_stable_offset log -ℤ pos 1
 
 -- ---- the offsets that are listed
 

@@ -20,6 +20,7 @@ ghost use Rattle.txn_handlers.specs.TxnOffsetCommit.{txn_offset_commit_outcome};
 ghost use Rattle.acl_handlers.specs.DescribeAcls.{describe_acls_outcome, describe_acls_reply};
 ghost use Rattle.data_handlers.specs.Judged.{topics_produced, batch_to_append};
 ghost use Rattle.producer_state.specs.Sequences.{judgment_of};
+ghost use Rattle.partition_log.specs.Log.{last_stable_offset};
 ghost use Rattle.api_laws.specs.Runs.{WholeRuns};
 ghost use Rattle.api_laws.specs.Headline.{AnswersEachTopic, RefusesEachTopic, NullTellsDescribable};
 ghost use Rattle.api_laws.specs.Framing.{ResponsesAreFramed};
@@ -47,7 +48,7 @@ ghost use Rattle.api_laws.specs.KeptOut.{RefusedKeepsOut};
 ghost use Rattle.api_laws.specs.Unchanged.{ErrorsChangeNothing};
 ghost use Rattle.api_laws.specs.BareAnswers.{RefusalsTellNothing};
 ghost use Rattle.api_laws.specs.ErrorCases.{ErrorsAreAnswered};
-ghost use Rattle.api_laws.specs.Wrong.{adding_groups_unasked, adding_nothing, adding_unasked, adding_what_is_there, answering_without_error, batch_of_any_size, batch_under_any_acks, code_of_ids_as_groups, code_of_topics, creating_alone, creating_for_topics_there, creating_nothing, creating_topics, creating_unasked, deleting_everything, deleting_nothing, deleting_unasked, describing_each_alone, describing_one_resource, describing_topics_there, ending_keeping_one, ending_unasked, fetch_keeping_the_budget, fetch_without_max_bytes, fetching_offsets_unasked, fetching_telling_missing, fetching_unasked, first_refusal_of, first_refused_topic, initing_again, initing_unasked, joining_alone, joining_unasked, judging_gaps_as_next, judging_repeats_as_next, listing_the_end, listing_the_last, listing_unasked, metadata_of_everybody, metadata_telling_missing, producing_for_all_replicas, producing_nothing, producing_to_the_first, producing_unasked, refusals_of_no_topic, refusals_without_bindings, reply_beating_anyway, reply_ids_as_groups, reply_to_alterers, reply_to_anybody, reply_unfenced, reply_with_acls, reply_with_ends, reply_without_brokers, reply_without_leaders, response_under_another_id, response_without_size, serving_from_the_start, serving_one_less, serving_stable_as_high, serving_to_the_end, serving_too_much, staging_alone, staging_unasked, step_adding_the_others, step_beginning_groups, step_telling_missing_as_untried, topics_for_everybody, topics_for_nobody, topics_kept, topics_left_out, topics_unasked, topics_with_repeats, world_from_offset_one, world_of_headers, world_of_repeats};
+ghost use Rattle.api_laws.specs.Wrong.{adding_groups_unasked, adding_nothing, adding_unasked, adding_what_is_there, answering_without_error, batch_of_any_size, batch_under_any_acks, code_of_ids_as_groups, code_of_topics, creating_alone, creating_for_topics_there, creating_nothing, creating_topics, creating_unasked, deleting_everything, deleting_nothing, deleting_unasked, describing_each_alone, describing_one_resource, describing_topics_there, ending_keeping_one, ending_unasked, fetch_keeping_the_budget, fetch_without_max_bytes, fetching_offsets_unasked, fetching_telling_missing, fetching_unasked, first_refusal_of, first_refused_topic, initing_again, initing_unasked, joining_alone, joining_unasked, judging_gaps_as_next, judging_repeats_as_next, listing_the_end, listing_the_last, listing_unasked, metadata_of_everybody, metadata_telling_missing, producing_for_all_replicas, producing_nothing, producing_to_the_first, producing_unasked, refusals_of_no_topic, refusals_without_bindings, reply_beating_anyway, reply_ids_as_groups, reply_to_alterers, reply_to_anybody, reply_unfenced, reply_with_acls, reply_with_ends, reply_without_brokers, reply_without_leaders, response_under_another_id, response_without_size, serving_from_the_start, serving_one_less, serving_stable_as_high, serving_to_the_end, serving_too_much, stable_at_the_end, stable_at_the_last, staging_alone, staging_unasked, step_adding_the_others, step_beginning_groups, step_telling_missing_as_untried, topics_for_everybody, topics_for_nobody, topics_kept, topics_left_out, topics_unasked, topics_with_repeats, world_from_offset_one, world_of_headers, world_of_repeats};
 
 /// A list of events that a core takes without a stop gives a receipt for each event, in order, and leaves the core in the state
 /// to which these events lead.
@@ -91,7 +92,9 @@ pub fn serves_what_fits()
 /// A log's last stable offset is the base offset of the first batch whose transaction no control batch has ended; or the log's
 /// end, where there is none.
 pub fn last_stable_is_exact()
-    ensures { LastStableIsExact }
+    ensures exact { LastStableIsExact last_stable_offset }
+    ensures until_open { ¬ LastStableIsExact stable_at_the_end }
+    ensures after_last { ¬ LastStableIsExact stable_at_the_last }
 {}
 
 /// Each response begins with the size of what follows, and the correlation id of its request. Between that and the body stands
