@@ -41,3 +41,4 @@ pub mod WrongLogs
 pub mod WrongMembers
 pub mod WrongOffsets
 pub mod WrongEnds
+pub mod Scripts

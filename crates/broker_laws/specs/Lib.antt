@@ -12,6 +12,7 @@ pub mod Members
 pub mod Commits
 pub mod Fetches
 pub mod MemberCodes
+pub mod Scripts
 pub mod Wrong
 pub mod WrongMembers
 pub mod WrongOffsets

@@ -5,7 +5,7 @@ use Rattle.msg_txn.specs.declared.end_txn.FlexibleEndTxn.{FlexibleEndTxn}
 use Rattle.msg_txn.specs.declared.end_txn.EndTxnRequest.{EndTxnRequest}
 use Rattle.msg_txn.specs.declared.end_txn.EndTxnRequest.TheVariants as versions
 use Rattle.msg_admin.specs.declared.request.Request.TheVariants.{InitProducerId, EndTxn}
-use Rattle.audit_trail.specs.declared.event.Event.TheVariants.{Ask, Tick}
+use Rattle.audit_trail.specs.declared.event.Event.TheVariants.{Ask, Mark, Tick}
 use Rattle.txn_coordinator.specs.declared.producer_id.ProducerIdAndEpoch.{ProducerIdAndEpoch}
 use Rattle.txn_coordinator.specs.declared.transaction.Transaction.{Transaction}
 use Rattle.txn_coordinator.specs.Coordinator.{CoordinatorValue, id_record}
@@ -95,3 +95,8 @@ step_fencing_nobody w (Ask caller client (InitProducerId r)) =
           (step w (Ask caller client (InitProducerId r))).coordinator;
     }
 step_fencing_nobody w e = step w e
+
+-- a mark is taken off the markers that are pending, and no group is told of the end
+abbrev pub step_deciding_nothing : WorldRule
+step_deciding_nothing w Mark = record (step w Mark) { groups = w.groups }
+step_deciding_nothing w e = step w e

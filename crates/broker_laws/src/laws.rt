@@ -5,7 +5,7 @@ ghost use Rattle.api_dispatch.specs.Step.{refusals_of, reply_to, step};
 ghost use Rattle.broker_world.specs.First.{first_world};
 ghost use Rattle.broker_world.specs.World.{World};
 ghost use Rattle.broker_laws.specs.Wrong.{first_for_everybody, first_without_acls, refusals_of_marks, step_committing_at_once, step_ending_early, step_going_back, step_removing_groups, step_with_retention, step_without_lapses};
-ghost use Rattle.broker_laws.specs.WrongEnds.{step_ending_nothing, step_fencing_nobody, step_keeping_epochs, step_owing_nothing, step_swapping_outcomes, step_taking_nothing_over, step_without_timeouts};
+ghost use Rattle.broker_laws.specs.WrongEnds.{step_deciding_nothing, step_ending_nothing, step_fencing_nobody, step_keeping_epochs, step_owing_nothing, step_swapping_outcomes, step_taking_nothing_over, step_without_timeouts};
 ghost use Rattle.broker_laws.specs.WrongMembers.{reply_beating_for_anybody, reply_in_any_generation, reply_leaving_for_anybody, reply_letting_a_second_in, reply_telling_the_member, reply_unknown_for_full, step_keeping_generations, step_leaving_for_anybody, step_letting_a_second_in};
 ghost use Rattle.broker_laws.specs.Targets.{HasTargets};
 ghost use Rattle.broker_laws.specs.Laws.{InReached, InCores};
@@ -15,6 +15,7 @@ ghost use Rattle.broker_laws.specs.Laws.{DecidesPrepared, DecidesWaiting, Groups
 ghost use Rattle.broker_laws.specs.Laws.{Fences, FencesProducers, FencedWriteNothing, NoDataAfterAGreaterMarker};
 ghost use Rattle.broker_laws.specs.LogEnds.{LogsGoOn, EndsPrepared, EndsWaiting};
 ghost use Rattle.broker_laws.specs.CommitAbort.{CommitsAreShown};
+ghost use Rattle.broker_laws.specs.Scripts.{OffsetsFollowTheEnd};
 ghost use Rattle.broker_laws.specs.FirstWorld.{FirstWorldIsTheSettings};
 ghost use Rattle.broker_laws.specs.Time.{TicksEndWhatIsOver};
 ghost use Rattle.broker_laws.specs.Trails.{TrailTells, CompletesOverATrail, CompletesBeforeIdle, CompletesOverARun, FencedOverATrail, FencedOverARun};
@@ -107,7 +108,11 @@ pub fn ends_batches()
 /// and what it aborts to none: the marker in each log has type 1 for a commit and 0 for an abort, and of a group's offsets a
 /// commit shows what was staged, and an abort doesn't.
 pub fn commits_are_shown()
-    ensures { CommitsAreShown }
+    ensures ends { CommitsAreShown }
+    ensures offsets { OffsetsFollowTheEnd step reply_to }
+    ensures as_named { ¬ OffsetsFollowTheEnd step_swapping_outcomes reply_to }
+    ensures after_the_end { ¬ OffsetsFollowTheEnd step_committing_at_once reply_to }
+    ensures decided { ¬ OffsetsFollowTheEnd step_deciding_nothing reply_to }
 {}
 
 /// What a partition's log holds stays there, whatever event comes: batches and markers are only appended.
