@@ -8,10 +8,10 @@ use Rattle.group_offsets.specs.Group.{fresh_group}
 use Rattle.broker_world.specs.World.{World}
 use Rattle.txn_handlers.specs.Marks.{mark_by}
 use Rattle.api_dispatch.specs.Step.{refusals_of}
-use Rattle.broker_laws.specs.Entries.{event_entry, log_entries}
+use Rattle.broker_laws.specs.Entries.{event_entry, log_entries, entries_in}
 use Rattle.broker_laws.specs.Laws.{EntriesAreTheLog, MarksAreNotRefused}
 
-pub entries_are_the_log : EntriesAreTheLog
+pub entries_are_the_log : EntriesAreTheLog entries_in
 entries_are_the_log = record {
   there = λ w p log e. ap log_entries e;
   missing = λ w p e. ap log_entries e;

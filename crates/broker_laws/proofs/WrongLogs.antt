@@ -9,12 +9,14 @@ use Rattle.txn_coordinator.specs.declared.target.Target.TheVariants as targets
 use Rattle.txn_coordinator.specs.declared.marker.PendingMarker.{PendingMarker}
 use Rattle.group_offsets.specs.declared.event.OffsetEvent.{OffsetEvent}
 use Rattle.group_offsets.specs.declared.event.OffsetEvent.TheVariants.{Put}
+use Rattle.txn_laws.specs.Small.{Entry}
+use Rattle.txn_laws.specs.Small.Entry.{Other}
 use Rattle.txn_laws.specs.Sound.{Each}
 use Rattle.broker_world.specs.World.{World, LogValue}
-use Rattle.broker_laws.specs.Laws.{ComesBy, GroupsGoOn, MarksAreNotRefused}
+use Rattle.broker_laws.specs.Laws.{ComesBy, EntriesAreTheLog, GroupsGoOn, MarksAreNotRefused}
 use Rattle.broker_laws.specs.LogEnds.{LogsGoOn}
-use Rattle.broker_laws.specs.Wrong.{step_with_retention, step_removing_groups, step_committing_at_once, refusals_of_marks}
-use Rattle.broker_laws.proofs.Worked.{w, asks, batch, with_batch, five, with_member, with_open, staging}
+use Rattle.broker_laws.specs.Wrong.{step_with_retention, step_removing_groups, step_committing_at_once, refusals_of_marks, entries_of_partitions_alone}
+use Rattle.broker_laws.proofs.Worked.{w, asks, batch, with_batch, five, group, with_member, with_open, staging}
 
 pub not_with_retention : ¬ LogsGoOn step_with_retention
 not_with_retention law =
@@ -46,3 +48,8 @@ with_marker = record w { coordinator = record { transactions = []; given = []; w
 
 pub not_asked : ¬ MarksAreNotRefused refusals_of_marks
 not_asked law = let clash : ◌≡◌ {A = ℕ} 1 0 = ap (λ (l : List Refusal). length l) (law with_marker) in cc
+
+-- ---- what the laws of transactions see
+
+pub not_of_partitions_alone : ¬ EntriesAreTheLog entries_of_partitions_alone
+not_of_partitions_alone law = let clash : ◌≡◌ {A = List Entry} [] (Other ∷ []) = law.begun with_member (bytes "g") group refl in cc

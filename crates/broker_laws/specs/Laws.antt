@@ -55,7 +55,7 @@ use Rattle.group_offsets.specs.declared.group.Group.{Group as GroupValue}
 use Rattle.group_offsets.specs.Offsets.{first_decision, offset_of}
 use Rattle.group_offsets.specs.Groups.{find_group, group_of}
 use Rattle.group_offsets.specs.Laws.{or_else, pending_offset}
-use Rattle.txn_laws.specs.Small.{first_world as first_small_world, world_after_moves}
+use Rattle.txn_laws.specs.Small.{Entry, first_world as first_small_world, world_after_moves}
 use Rattle.txn_laws.specs.Sound.{Each, IsOrdered}
 use Rattle.txn_laws.specs.Laws.{IsEnded, IsSilent, Refuses, up_to_last}
 use Rattle.txn_laws.specs.Kept.{kept_id_and_epoch, kept_world, kept_world_after_moves}
@@ -87,7 +87,7 @@ InCores Law = (core : CoreValue) → IsCore core → core.down ≡ false → Law
 
 -- what the laws see of a partition is its log, batch by batch, and nothing of one that isn't there;
 -- of a group they see its offset events, and nothing of one that hasn't begun
-pub record EntriesAreTheLog : Type 0 where
+pub record EntriesAreTheLog (entries_in : World → Target → List Entry) : Type 0 where
   pub there : (w : World) (p : TopicPartition) (log : LogValue)
       → log_at w.topics p.topic p.index ≡ Some log → entries_in w (Partition p) ≡ map entry_of log
   pub missing : (w : World) (p : TopicPartition) → log_at w.topics p.topic p.index ≡ None

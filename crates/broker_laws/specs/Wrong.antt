@@ -7,10 +7,12 @@ use Rattle.msg_txn.specs.declared.end_txn.EndTxnRequest.TheVariants as versions
 use Rattle.msg_admin.specs.declared.request.Request.TheVariants.{LeaveGroup, EndTxn, TxnOffsetCommit}
 use Rattle.audit_trail.specs.declared.event.Event.TheVariants.{Ask, Mark, Tick}
 use Rattle.txn_coordinator.specs.declared.marker.PendingMarker.{PendingMarker}
+use Rattle.txn_coordinator.specs.declared.target.Target.{Target}
+use Rattle.txn_coordinator.specs.declared.target.Target.TheVariants.{Partition, Group}
 use Rattle.txn_coordinator.specs.Warrants.{next_warrant}
 use Rattle.group_offsets.specs.declared.event.OffsetEvent.{OffsetEvent}
 use Rattle.group_offsets.specs.declared.event.OffsetEvent.TheVariants.{Put, Stage, Decide}
-use Rattle.group_offsets.specs.declared.group.Group.{Group}
+use Rattle.group_offsets.specs.declared.group.Group.{Group as GroupValue}
 use Rattle.group_offsets.specs.Group.{fresh_group}
 use Rattle.group_offsets.specs.Groups.{groups_with}
 use Rattle.txn_coordinator.specs.Expiry.{expire}
@@ -18,6 +20,8 @@ use Rattle.broker_world.specs.First.{first_world}
 use Rattle.broker_world.specs.World.{World, TopicValue, LogValue}
 use Rattle.api_dispatch.specs.Step.{step, refusals_of}
 use Rattle.broker_laws.specs.FirstWorld.{FirstRule}
+use Rattle.txn_laws.specs.Small.{Entry}
+use Rattle.broker_laws.specs.Entries.{entries_in}
 use Rattle.broker_laws.specs.Rules.{WorldRule, RefusalsRule}
 
 -- ---- the first world
@@ -86,7 +90,7 @@ abbrev pub step_committing_at_once : WorldRule
 step_committing_at_once w (Ask caller client (TxnOffsetCommit r)) =
     record (step w (Ask caller client (TxnOffsetCommit r))) {
       groups = map
-          (λ (g : Group). record g { offsets = map committed_at_once g.offsets })
+          (λ (g : GroupValue). record g { offsets = map committed_at_once g.offsets })
           (step w (Ask caller client (TxnOffsetCommit r))).groups;
     }
 step_committing_at_once w e = step w e
@@ -115,3 +119,10 @@ refusals_of_marker w (Some m) =
 abbrev pub refusals_of_marks : RefusalsRule
 refusals_of_marks w Mark = refusals_of_marker w (next_warrant w.coordinator)
 refusals_of_marks w e = refusals_of w e
+
+-- ---- what the laws of transactions see
+
+-- nothing is seen of a group
+abbrev pub entries_of_partitions_alone : World → Target → List Entry
+entries_of_partitions_alone w (Partition p) = entries_in w (Partition p)
+entries_of_partitions_alone w (Group g) = []

@@ -4,7 +4,7 @@
 ghost use Rattle.api_dispatch.specs.Step.{refusals_of, reply_to, step};
 ghost use Rattle.broker_world.specs.First.{first_world};
 ghost use Rattle.broker_world.specs.World.{World};
-ghost use Rattle.broker_laws.specs.Wrong.{first_for_everybody, first_without_acls, refusals_of_marks, step_committing_at_once, step_ending_early, step_going_back, step_removing_groups, step_with_retention, step_without_lapses};
+ghost use Rattle.broker_laws.specs.Wrong.{entries_of_partitions_alone, first_for_everybody, first_without_acls, refusals_of_marks, step_committing_at_once, step_ending_early, step_going_back, step_removing_groups, step_with_retention, step_without_lapses};
 ghost use Rattle.broker_laws.specs.WrongEnds.{step_deciding_nothing, step_ending_nothing, step_fencing_nobody, step_keeping_epochs, step_owing_nothing, step_swapping_outcomes, step_taking_nothing_over, step_without_timeouts};
 ghost use Rattle.broker_laws.specs.WrongMembers.{reply_beating_for_anybody, reply_in_any_generation, reply_leaving_for_anybody, reply_letting_a_second_in, reply_telling_the_member, reply_unknown_for_full, step_keeping_generations, step_leaving_for_anybody, step_letting_a_second_in};
 ghost use Rattle.broker_laws.specs.Targets.{HasTargets};
@@ -14,6 +14,7 @@ ghost use Rattle.broker_laws.specs.Laws.{Prepares, OwesMarkers, OwesPrepared, Co
 ghost use Rattle.broker_laws.specs.Laws.{DecidesPrepared, DecidesWaiting, GroupsGoOn};
 ghost use Rattle.broker_laws.specs.Laws.{Fences, FencesProducers, FencedWriteNothing, NoDataAfterAGreaterMarker};
 ghost use Rattle.broker_laws.specs.LogEnds.{LogsGoOn, EndsPrepared, EndsWaiting};
+ghost use Rattle.broker_laws.specs.Entries.{entries_in};
 ghost use Rattle.broker_laws.specs.CommitAbort.{CommitsAreShown};
 ghost use Rattle.broker_laws.specs.Scripts.{OffsetsFollowTheEnd};
 ghost use Rattle.broker_laws.specs.FirstWorld.{FirstWorldIsTheSettings};
@@ -46,7 +47,8 @@ pub fn ticks_end_what_is_over()
 /// The laws of transactions are about the real logs: what they see of a partition is its log, batch by batch, and of a group its
 /// commits and decisions of offsets.
 pub fn entries_are_the_log()
-    ensures { EntriesAreTheLog }
+    ensures log { EntriesAreTheLog entries_in }
+    ensures groups { ¬ EntriesAreTheLog entries_of_partitions_alone }
 {}
 
 /// Each event changes the coordinator, the time, the logs and the groups' offsets just as the steps do of which the laws of
