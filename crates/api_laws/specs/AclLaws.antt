@@ -104,7 +104,7 @@ pub record AclsDependOnTheBook (describe_acls_outcome : DescribeAclsRule)
   pub delete : (v w : World) (caller : Caller) (r : DeleteAclsRequest) → SameBase v w
       → SameEdit (delete_acls_outcome v caller r) (delete_acls_outcome w caller r)
 
--- no log is touched
+-- an edit of ACLs touches no log
 pub record AclsKeepTopics (create_acls_outcome : CreateRule) : Type 0 where
   pub create : (w : World) (caller : Caller) (r : CreateAclsRequest)
       → (create_acls_outcome w caller r).world.topics ≡ w.topics

@@ -43,14 +43,14 @@ FetchDependsOnGrants fetch_outcome =
     → SameForParts v w (fetch_rule caller r.isolation w.topics) r.topics
     → SameAnswer (fetch_outcome v caller r) (fetch_outcome w caller r)
 
--- and so they answer a ListOffsets
+-- worlds that agree on what a ListOffsets is granted give it the same answer
 abbrev pub ListOffsetsDependsOnGrants : ListOffsetsRule → Type 0
 ListOffsetsDependsOnGrants list_offsets_outcome =
     (v w : World) (caller : Caller) (r : ListOffsetsRequest) → SameBase v w
     → SameForParts v w (list_rule caller r.isolation w.topics) r.topics
     → SameAnswer (list_offsets_outcome v caller r) (list_offsets_outcome w caller r)
 
--- and so they answer a Produce
+-- worlds that agree on what a Produce is granted give it the same answer
 abbrev pub ProduceDependsOnGrants : ProduceRule → Type 0
 ProduceDependsOnGrants produce_outcome =
     (v w : World) (caller : Caller) (r : ProduceRequest) → SameBase v w

@@ -30,7 +30,7 @@ after_size correlation api r =
 abbrev pub ResponseRule : Type 0
 ResponseRule = ℤ → Reply → List ℕ
 
--- the size of the rest, and the rest
+-- a response is the size of the rest, and the rest
 abbrev pub ResponsesAreFramed : ResponseRule → Type 0
 ResponsesAreFramed response =
     (correlation : ℤ) (r : Reply) (api : Api) → sent_as r ≡ Some api

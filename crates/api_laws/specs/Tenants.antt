@@ -66,7 +66,7 @@ SameForMetadata v w caller None = SameListed v w caller
 abbrev pub MetadataRule : Type 0
 MetadataRule = World → Caller → MetadataRequest → MetadataReply
 
--- such worlds give the same answer and the same refusals
+-- worlds that agree on what a Metadata is granted give it the same answer and the same refusals
 abbrev pub DependsOnGrants : MetadataRule → Type 0
 DependsOnGrants metadata_answer =
     (v w : World) (caller : Caller) (m : MetadataRequest) → SameBase v w

@@ -55,7 +55,8 @@ AddRule = World → Caller → AddPartitionsToTxnRequest → HandlerResult
 abbrev pub EndRule : Type 0
 EndRule = World → Caller → EndTxnRequest → HandlerResult
 
--- where each partition may be added it is whole, and where one may not be, it is cut
+-- where each partition may be added the coordinator decides for all, and where one may not be, none
+-- is added
 pub record AddsAllOrNone (add_partitions_outcome : AddRule) : Type 0 where
   pub all : (w : World) (caller : Caller) (r : AddPartitionsToTxnRequest)
       → AllTopics (IsAddable w caller r.transactional_id) r.topics
