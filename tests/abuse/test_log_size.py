@@ -107,7 +107,7 @@ class LogSize(unittest.TestCase):
                     self.refuse(broker)
                     broker.ask("Metadata", topics=["b"])
                     if more:
-                        wait_until(lambda: REST in server.told(), "the refusals aren't logged")
+                        wait_until(lambda: REST in server.told(), otherwise="the refusals aren't logged")
                     grown[more] = server.peak_memory() - before
         without, with_log = grown.values()
         print(f"abuse: {PARTS} refusals take {without} bytes, and {with_log} with the log", file=sys.stderr)

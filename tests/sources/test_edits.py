@@ -50,6 +50,16 @@ class Edits(unittest.TestCase):
                     self.assertRegex(file.name, r"\A\w[\w.-]*\.edit\Z")
 
 
+    def test_each_names_a_test_that_stands(self):
+        """The test that an edit of `failing-tests/` has to fail is one of its crate."""
+        kind = edits.FAILING_TESTS
+        for edit in kind.edits(crates_list()):
+            with self.subTest(edit=str(edit.relative_to(ROOT))):
+                module, name = edits.due(edit, kind.key).split("::")
+                text = (edit.parent.parent / "src" / f"{module}.rt").read_text()
+                self.assertRegex(text, rf"#\[test\]\nfn {name}\(")
+
+
 class Reading(unittest.TestCase):
     def setUp(self):
         self.folder = Path(self.enterContext(tempfile.TemporaryDirectory()))
