@@ -64,10 +64,7 @@ fn settings_option<'a>(alloc: Global) -> Result<Arg<'a>, AllocError>
     ensures rule { IfOk result (λ made. rule_of made ≡ settings_rule) }
     ensures local { IfOk result (λ made. made.global ≡ false) }
 {
-    with_alias(
-        option(alloc, "settings", "FILE", SETTINGS, false),
-        "config",
-    )
+    with_alias(option(alloc, "settings", "FILE", SETTINGS, false), "config")
 }
 
 /// A switch `--NAME` without a value.

@@ -36,13 +36,7 @@ pub fn explain<E: Write>(alloc: Global, errors: &mut E, what: &str, why: &str) {
 
 /// Prints `kbroker: WHAT: WHY: REASON`, the last being the system's reason, which is left out after an allocation failure. That a
 /// write fails isn't reported.
-pub fn explain_by<E: Write>(
-    alloc: Global,
-    errors: &mut E,
-    what: &str,
-    why: &str,
-    reason: Reason,
-) {
+pub fn explain_by<E: Write>(alloc: Global, errors: &mut E, what: &str, why: &str, reason: Reason) {
     match format!(in alloc; "{why}: {reason}") {
         Ok(why) => explain(alloc, errors, what, why.as_str()),
         Err(_) => explain(alloc, errors, what, why),

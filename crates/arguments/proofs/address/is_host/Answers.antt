@@ -28,8 +28,7 @@ returns-then-not-is_empty c =
 pub returns-else-not-is_empty : goal.returns-else-not-is_empty
 returns-else-not-is_empty c =
     let empty : c.is_empty.result ≡ true = c.if-not-is_empty.false in
-    let none : length c.args.text.now ≡ 0 = eqb-true (length c.args.text.now) 0 (sym c.is_empty.ensures ∙ empty) in
-    (
+    let none : length c.args.text.now ≡ 0 = eqb-true (length c.args.text.now) 0 (sym c.is_empty.ensures ∙ empty) in (
       λ yes. absurd (both_ways (not c.is_empty.result) (ap not empty) yes),
       λ host. let some = host.0 in absurd (omega arith),
     )
