@@ -1,10 +1,12 @@
 """`kbroker serve` over TCP: what it prints and how it ends, each api asked over a connection, and peers that vanish."""
 
+import fcntl
 import re
 import select
 import socket
 import struct
 import subprocess
+import termios
 import time
 import unittest
 from concurrent.futures import ThreadPoolExecutor
@@ -405,14 +407,28 @@ class Operators(ServedCase):
                 stranger.sendall(bytes.fromhex(framed(1_000 + number, 0, 1, None, b"")))
                 self.assertEqual(stranger.recv(1), b"", number)
 
+    def wait_until_full(self, pipe):
+        """Waits until half a second brings nothing more into a pipe from which nobody reads, and for which more is left."""
+
+        def held():
+            return struct.unpack("i", fcntl.ioctl(pipe, termios.FIONREAD, bytes(4)))
+
+        def is_full():
+            before = held()
+            time.sleep(0.5)
+            return held() == before
+
+        wait_until(is_full, otherwise="the pipe isn't full")
+
     def test_unread_lines_hold_up_nobody(self):
         """Lines that nobody reads hold up no session and no marker. Those without room are left out, and their number is told."""
-        strangers, refused = 3_000, 1_500  # whose lines fill the pipe, so that the others' wait behind them
+        strangers, refused = 3_000, 2_000  # whose lines fill the pipe, so that the others' wait behind them
         words = {"workers": 3, "connections": strangers + 2, "more": ("--audit", "-"), "errors": subprocess.PIPE}
         with ClockedKbroker(SETTINGS, **words) as server:
             with logged_in(server.address) as broker, logged_in(server.address, "ann", "pw") as reader:
                 for _ in range(refused):
                     self.produce(reader, b"x", code=Code.TOPIC_AUTHORIZATION_FAILED)
+                self.wait_until_full(server.process.stderr)
                 self.ask_without_a_login(server, strangers)
                 self.transact(broker, [b"kept"], True)
                 wait_for_markers(broker)
