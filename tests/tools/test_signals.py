@@ -172,7 +172,7 @@ def is_dead(process):
     try:
         with open(f"/proc/{process}/stat", encoding="utf-8") as it:
             return it.read().rpartition(")")[2].split()[0] == "Z"
-    except FileNotFoundError:
+    except (FileNotFoundError, ProcessLookupError):  # it has ended before it was opened, or before it was read
         return True
 
 
