@@ -12,9 +12,10 @@ import re
 import sys
 from pathlib import Path
 
+from generated import Part
+
 ROOT = Path(__file__).resolve().parent.parent
-PAGE = ROOT / "docs/PROOFS.md"
-BEGIN, END = "<!-- made by tools/refutations.py -->\n", "<!-- so far -->\n"
+PART = Part(ROOT / "docs/PROOFS.md", "refutations")
 FUNCTION = re.compile(r"^pub fn (\w+)\(\)\n(.*?)^\{\}$", re.M | re.S)
 CLAUSE = re.compile(r"ensures (?:(\w+) )?\{(.*?)\}", re.S)
 USE = re.compile(r"^ghost use Rattle\.(\w+)\.specs\.([\w.]+)\.\{(.*?)\};$", re.M | re.S)
@@ -94,22 +95,12 @@ def table():
     return "\n".join(rows) + "\n", lacks
 
 
-def parts_of(page):
-    """What stands on the page before the table, in its place, and after it."""
-    before, begin, rest = page.partition(BEGIN)
-    held, end, after = rest.partition(END)
-    if not (begin and end):
-        sys.exit(f"kbroker: {PAGE.name} has no place for the table")
-    return before, held, after
-
-
 def main():
     parser = argparse.ArgumentParser(description="Prints the table of the laws that refute wrong rules.")
     parser.add_argument("--write", action="store_true", help="puts it into docs/PROOFS.md")
     made, lacks = table()
     if parser.parse_args().write:
-        before, _, after = parts_of(PAGE.read_text(encoding="utf-8"))
-        PAGE.write_text(f"{before}{BEGIN}\n{made}\n{END}{after}", encoding="utf-8")
+        PART.write(made)
     else:
         print(made, end="")
     for it in lacks:

@@ -19,10 +19,11 @@ import tomllib
 from pathlib import Path
 
 import refutations
+from generated import Part
 
 ROOT = Path(__file__).resolve().parent.parent
-PAGE, REASONS, RULES, THEOREM = "docs/SAID_ONCE.md", "tools/said_once.toml", "docs/PROOFS.md", "docs/THEOREM.md"
-BEGIN, END = "<!-- made by tools/said_once.py -->\n", "<!-- so far -->\n"
+REASONS, RULES, THEOREM = "tools/said_once.toml", "docs/PROOFS.md", "docs/THEOREM.md"
+PART = Part(ROOT / "docs/SAID_ONCE.md", "said_once")
 CRATES_OF_LAWS = {"api_laws", "broker_laws", "durability_laws", "read_laws", "session_laws", "tenant_laws", "txn_laws", "wire_laws"}
 CRATES_OF_LAWS |= {"wrong_rules"}
 STEPS = {("api_dispatch", "Step", it) for it in ("outcome", "step", "reply_to", "request_outcome")}
@@ -156,22 +157,12 @@ def table(root=ROOT):
     return "\n".join(rows) + "\n", once, lacks + lacks_of(found, reasons)
 
 
-def parts_of(page):
-    """What stands on the page before the table, in its place, and after it."""
-    before, begin, rest = page.partition(BEGIN)
-    held, end, after = rest.partition(END)
-    if not (begin and end):
-        sys.exit(f"kbroker: {PAGE} has no place for the table")
-    return before, held, after
-
-
 def main():
     parser = argparse.ArgumentParser(description="Prints the table of the definitions that are said once.")
-    parser.add_argument("--write", action="store_true", help=f"puts it into {PAGE}, and their number into {THEOREM}")
+    parser.add_argument("--write", action="store_true", help=f"puts it into docs/SAID_ONCE.md, and their number into {THEOREM}")
     made, once, lacks = table()
     if parser.parse_args().write:
-        before, _, after = parts_of((ROOT / PAGE).read_text(encoding="utf-8"))
-        (ROOT / PAGE).write_text(f"{before}{BEGIN}\n{made}\n{END}{after}", encoding="utf-8")
+        PART.write(made)
         (ROOT / THEOREM).write_text(COUNT.sub(f"{once}", (ROOT / THEOREM).read_text(encoding="utf-8")), encoding="utf-8")
     else:
         print(made, end="")
