@@ -24,6 +24,11 @@ ONLY = "IsTheOnly"  # of a law and a rule: no other rule has the law
 REFUTED = re.compile(r"^(?:\(.*\) → )?¬ (.*)$", re.S)
 
 
+def files_of_laws(root):
+    """The sources of a repository that hold laws: each crate's laws.rt, and what is too long for it in files whose names end so."""
+    return sorted((root / "crates").glob("*/src/*laws.rt"))
+
+
 class Law:
     """A law of a function: its name, the rules that have it, and the wrong ones that it refutes."""
 
@@ -87,7 +92,7 @@ def row_of(law, said):
 def table():
     """The table, and what lacks in it."""
     rows, lacks = ["| law of | says | of the rule | and refutes |", "|---|---|---|---|"], []
-    for path in sorted((ROOT / "crates").glob("*/src/laws.rt")):
+    for path in files_of_laws(ROOT):
         laws, said = laws_of(path)
         for row, lacking in (row_of(it, said) for it in laws):
             rows.append(row)

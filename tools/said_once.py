@@ -85,14 +85,15 @@ class Sources:
     def reached(self):
         """The definitions that contracts speak of."""
         paths = sorted((self.root / "crates").glob("*/src/**/*.rt"))
-        texts = [it.read_text(encoding="utf-8") for it in paths if it.name != "laws.rt"]
+        laws = {*refutations.files_of_laws(self.root)}
+        texts = [it.read_text(encoding="utf-8") for it in paths if it not in laws]
         found = self.closure(it for text in texts for it in self.used(text).values())
         return {it for it in found if it[0] not in CRATES_OF_LAWS}
 
     def rules_of_clauses(self):
         """The rules of the laws that refute others."""
         found = set()
-        for path in sorted((self.root / "crates").glob("*/src/laws.rt")):
+        for path in refutations.files_of_laws(self.root):
             used = self.used(path.read_text(encoding="utf-8"))
             found |= {used[it] for law in refutations.laws_of(path)[0] for rules in law.right for it in rules if it in used}
         return found

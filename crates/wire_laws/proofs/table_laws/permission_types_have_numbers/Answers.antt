@@ -1,7 +1,7 @@
 use Rattle.std.proofs.Common.{rules}
 use Rattle.acl_binding.specs.WireNumbers.{permission_code, permission_at}
 use Rattle.wire_laws.proofs.Numbers.{permissions-told, permissions-told-only, permissions-read, permissions-read-only, permission-names, permission-names-only, permission-names-read, permission-names-read-only}
-use Rattle.wire_laws.proofs.laws.permission_types_have_numbers.Goals as goal
+use Rattle.wire_laws.proofs.table_laws.permission_types_have_numbers.Goals as goal
 
 pub returns-clause-told : goal.returns-clause-told
 returns-clause-told c = permissions-told

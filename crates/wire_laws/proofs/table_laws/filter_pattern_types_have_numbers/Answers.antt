@@ -1,7 +1,7 @@
 use Rattle.std.proofs.Common.{rules}
 use Rattle.acl_binding.specs.WireNumbers.{filter_pattern_code, filter_pattern_at}
 use Rattle.wire_laws.proofs.Numbers.{filter_patterns-told, filter_patterns-told-only, filter_patterns-read, filter_patterns-read-only}
-use Rattle.wire_laws.proofs.laws.filter_pattern_types_have_numbers.Goals as goal
+use Rattle.wire_laws.proofs.table_laws.filter_pattern_types_have_numbers.Goals as goal
 
 pub returns-clause-told : goal.returns-clause-told
 returns-clause-told c = filter_patterns-told

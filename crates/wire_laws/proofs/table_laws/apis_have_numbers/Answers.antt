@@ -1,7 +1,7 @@
 use Rattle.std.proofs.Common.{rules}
 use Rattle.msg_admin.specs.ApiKey.{all_keys, key_at}
 use Rattle.wire_laws.proofs.Numbers.{apis-told, apis-told-only, apis-read, apis-read-only}
-use Rattle.wire_laws.proofs.laws.apis_have_numbers.Goals as goal
+use Rattle.wire_laws.proofs.table_laws.apis_have_numbers.Goals as goal
 
 pub returns-clause-served : goal.returns-clause-served
 returns-clause-served c = apis-told

@@ -1,7 +1,7 @@
 use Rattle.std.proofs.Common.{rules}
 use Rattle.acl_binding.specs.WireNumbers.{pattern_code, pattern_at}
 use Rattle.wire_laws.proofs.Numbers.{patterns-told, patterns-told-only, patterns-read, patterns-read-only, pattern-names, pattern-names-only, pattern-names-read, pattern-names-read-only}
-use Rattle.wire_laws.proofs.laws.pattern_types_have_numbers.Goals as goal
+use Rattle.wire_laws.proofs.table_laws.pattern_types_have_numbers.Goals as goal
 
 pub returns-clause-told : goal.returns-clause-told
 returns-clause-told c = patterns-told

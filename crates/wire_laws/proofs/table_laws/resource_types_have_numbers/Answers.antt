@@ -1,7 +1,7 @@
 use Rattle.std.proofs.Common.{rules}
 use Rattle.acl_binding.specs.WireNumbers.{kind_code, kind_at}
 use Rattle.wire_laws.proofs.Numbers.{kinds-told, kinds-told-only, kinds-read, kinds-read-only, kind-names, kind-names-only, kind-names-read, kind-names-read-only}
-use Rattle.wire_laws.proofs.laws.resource_types_have_numbers.Goals as goal
+use Rattle.wire_laws.proofs.table_laws.resource_types_have_numbers.Goals as goal
 
 pub returns-clause-told : goal.returns-clause-told
 returns-clause-told c = kinds-told

@@ -1,7 +1,7 @@
 use Rattle.std.proofs.Common.{rules}
 use Rattle.msg_data.specs.Isolation.{isolation_of}
 use Rattle.wire_laws.proofs.Numbers.{levels-told, levels-told-only, levels-read, levels-read-only}
-use Rattle.wire_laws.proofs.laws.isolation_levels_have_numbers.Goals as goal
+use Rattle.wire_laws.proofs.table_laws.isolation_levels_have_numbers.Goals as goal
 
 pub returns-clause-told : goal.returns-clause-told
 returns-clause-told c = levels-told

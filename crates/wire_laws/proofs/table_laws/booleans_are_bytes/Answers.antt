@@ -2,7 +2,7 @@ use Rattle.std.proofs.Common.{rules}
 use Rattle.wire_types.specs.Reading.{bool_at}
 use Rattle.wire_types.specs.Spelling.{bool_written}
 use Rattle.wire_laws.proofs.Numbers.{booleans-told, booleans-told-only, booleans-read, booleans-read-only, booleans-read-not-inverted, booleans-read-not-refused}
-use Rattle.wire_laws.proofs.laws.booleans_are_bytes.Goals as goal
+use Rattle.wire_laws.proofs.table_laws.booleans_are_bytes.Goals as goal
 
 pub returns-clause-written : goal.returns-clause-written
 returns-clause-written c = booleans-told

@@ -1,7 +1,7 @@
 use Rattle.std.proofs.Common.{rules}
 use Rattle.wire_types.specs.ErrorCode.{number_of, all_codes, code_of}
 use Rattle.wire_laws.proofs.Numbers.{errors-told, errors-told-only, errors-read, errors-read-only}
-use Rattle.wire_laws.proofs.laws.error_codes_have_numbers.Goals as goal
+use Rattle.wire_laws.proofs.table_laws.error_codes_have_numbers.Goals as goal
 
 pub returns-clause-told : goal.returns-clause-told
 returns-clause-told c = errors-told

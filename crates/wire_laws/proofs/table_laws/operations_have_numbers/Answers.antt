@@ -1,7 +1,7 @@
 use Rattle.std.proofs.Common.{rules}
 use Rattle.acl_binding.specs.WireNumbers.{operation_code, operation_at}
 use Rattle.wire_laws.proofs.Numbers.{operations-told, operations-told-only, operations-read, operations-read-only, operation-names, operation-names-only, operation-names-read, operation-names-read-only}
-use Rattle.wire_laws.proofs.laws.operations_have_numbers.Goals as goal
+use Rattle.wire_laws.proofs.table_laws.operations_have_numbers.Goals as goal
 
 pub returns-clause-told : goal.returns-clause-told
 returns-clause-told c = operations-told
